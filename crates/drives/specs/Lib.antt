@@ -1,0 +1,4 @@
+pub mod Drives
+pub mod Machines
+pub mod Layers
+pub mod Simulation
