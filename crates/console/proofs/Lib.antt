@@ -1,1 +1,4 @@
 pub mod Begins
+pub mod Passes
+pub mod Numbers
+pub mod Pairs

@@ -63,6 +63,9 @@ valueFrom n (d ∷ ds) = valueFrom (10 * n + (d - 48)) ds
 abbrev pub most : ℕ
 most = 18446744073709551615
 
--- a number of eight bytes; whatever is no such number is told as the largest, which is out of range
+-- a number of eight bytes after the number so far; what is no such number is read as the largest, which is out of range for a time
+abbrev pub readFrom : ℕ → List ℕ → ℕ
+readFrom n ds = cond (allPass isDecimal ds) (min (valueFrom n ds) most) most
+
 abbrev pub numberOf : List ℕ → ℕ
-numberOf ds = cond (eqb (length ds) 0) most (cond (allPass isDecimal ds) (min (valueFrom 0 ds) most) most)
+numberOf ds = cond (eqb (length ds) 0) most (readFrom 0 ds)

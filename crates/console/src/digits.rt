@@ -78,6 +78,12 @@ pub fn push_hex(out: &mut Vec<u8>, bytes: &[u8]) -> Result<(), AllocError>
     Ok(())
 }
 
+fn is_decimal(d: u8) -> bool
+    ensures { λ r. ⌜ r ≡ isDecimal d ⌝ }
+{
+    d >= 48 && d <= 57
+}
+
 // A number of eight bytes in decimal digits; the largest, where they are none.
 pub fn number(digits: &[u8]) -> u64
     ensures { λ r. ⌜ r ≡ numberOf (now (digits .entry)) ⌝ }
@@ -87,7 +93,7 @@ pub fn number(digits: &[u8]) -> u64
     }
     let mut n: u64 = 0;
     for d in digits {
-        if *d < 48 || *d > 57 {
+        if !is_decimal(*d) {
             return u64::MAX;
         }
         n = n.saturating_mul(10).saturating_add((*d - 48) as u64);

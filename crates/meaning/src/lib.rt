@@ -4,5 +4,4 @@ ghost use Rattle.meaning.specs.Examples.{ExamplesPlay};
 // The worked examples are answered as they say.
 pub fn examples_play()
     ensures { λ _. ⌜ ExamplesPlay ⌝ }
-{
-}
+{}
