@@ -7,10 +7,13 @@ ghost use lib.ListN.{length, getD, set, take, drop};
 ghost use Rattle.console.specs.Commands.{beginsWith, isWord, saidOf, says, Trims, Means};
 
 mod digits;
+mod reading;
 
 use digits::number;
 pub use digits::push_hex;
 use digits::unhex;
+pub use reading::TextLine;
+pub use reading::Text;
 
 // What a line of text says; the digits that follow a word are parts of it.
 #[derive(Clone, Copy)]

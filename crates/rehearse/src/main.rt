@@ -1,0 +1,4 @@
+use std::io;
+fn main(rt: LibcRuntime) -> io::Result<()> {
+    println!(rt, "hi")
+}
