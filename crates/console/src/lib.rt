@@ -12,8 +12,8 @@ mod reading;
 use digits::number;
 pub use digits::push_hex;
 use digits::unhex;
-pub use reading::TextLine;
 pub use reading::Text;
+pub use reading::TextLine;
 
 // What a line of text says; the digits that follow a word are parts of it.
 #[derive(Clone, Copy)]

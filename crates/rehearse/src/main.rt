@@ -1,4 +1,5 @@
 use std::io;
+
 fn main(rt: LibcRuntime) -> io::Result<()> {
     println!(rt, "hi")
 }
