@@ -1,0 +1,2 @@
+// Calls and answers as bytes.
+mod fields;
