@@ -1,2 +1,3 @@
 // Calls and answers as bytes.
 mod fields;
+pub mod calls;
