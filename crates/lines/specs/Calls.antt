@@ -67,13 +67,21 @@ unfoldable pub many : {A : Type 0} → (A → List ℕ) → List A → List ℕ
 many write [] = []
 many write (x ∷ xs) = write x ++ many write xs
 
--- are they just n of a kind
+abbrev pub whole : {A : Type 0} → Option (Took A) → Bool
+whole None = false
+whole (Some t) = eqb (length (t .rest)) 0
+
+-- are these just n of a kind
 abbrev pub areMany : {A : Type 0} → (List ℕ → Option (Took A)) → ℕ → List ℕ → Bool
-areMany read n l = elim (manyIn read n l) [ None ↦ false | Some t ↦ eqb (length (t .rest)) 0 ]
+areMany read n l = whole (manyIn read n l)
+
+abbrev pub listed : {A : Type 0} → Option (Took (List A)) → List A
+listed None = []
+listed (Some t) = t .value
 
 -- those n
 abbrev pub allIn : {A : Type 0} → (List ℕ → Option (Took A)) → ℕ → List ℕ → List A
-allIn read n l = elim (manyIn read n l) [ None ↦ [] | Some t ↦ t .value ]
+allIn read n l = listed (manyIn read n l)
 
 -- THE BYTES OF A CALL
 

@@ -5,4 +5,4 @@ use Rattle.lines.proofs.calls.are_rules.Given as given
 
 -- what is left decides
 abbrev pub Inv-loop : given.InvT-loop
-Inv-loop l = areMany ruleIn (l .count - l .i) (l .left) ≡ areMany ruleIn (l .count) (l .entry .left)
+Inv-loop l = areMany ruleIn (l .count - l .counter) (l .left) ≡ areMany ruleIn (l .count) (l .entry .left)
