@@ -1,3 +1,4 @@
 // Calls and answers as bytes.
-mod fields;
 pub mod calls;
+pub mod fields;
+pub mod order;
