@@ -1,0 +1,38 @@
+-- What is written to the front of a buffer.
+-- Assumes nothing.
+use mathlib.Core.Bool.{Bool, true, cond, _&&_}
+use mathlib.Core.List.{List, [], _∷_, _++_}
+use Prim.Native.Nat.{ℕ, _+_, _^_}
+use denote.Ref.{now}
+use lib.Dec.{ltb, leb}
+use lib.ListN.{length, take, drop}
+use Rattle.std.specs.declared.option.Option.{Option}
+use Rattle.std.specs.declared.option.Option.the-variants.{Some, None}
+use Rattle.meaning.specs.Lists.{every}
+use Rattle.lines.specs.Fields.{number}
+use Rattle.lines.specs.Calls.{name, content, many, lineOf}
+use Rattle.answers.specs.declared.fills.Field.{Field}
+use Rattle.answers.specs.declared.fills.Field.the-variants.{U8, U16, U32, U64, Name, Content, Plain}
+
+abbrev pub fieldBytes : Field → List ℕ
+fieldBytes (U8 n) = number 1 n
+fieldBytes (U16 n) = number 2 n
+fieldBytes (U32 n) = number 4 n
+fieldBytes (U64 n) = number 8 n
+fieldBytes (Name bs) = name (now bs)
+fieldBytes (Content bs) = content (now bs)
+fieldBytes (Plain bs) = now bs
+
+-- is its length one that its count can say
+abbrev pub fieldFits : Field → Bool
+fieldFits (U8 n) = true
+fieldFits (U16 n) = true
+fieldFits (U32 n) = true
+fieldFits (U64 n) = true
+fieldFits (Name bs) = ltb (length (now bs)) 256
+fieldFits (Content bs) = ltb (length (now bs)) 4294967296
+fieldFits (Plain bs) = true
+
+-- these bytes from a place on, and all else as it was
+unfoldable pub putAt : ℕ → List ℕ → List ℕ → List ℕ
+putAt at bs out = take at out ++ (bs ++ drop (at + length bs) out)

@@ -1,0 +1,2 @@
+// Answers as bytes.
+pub mod fills;
