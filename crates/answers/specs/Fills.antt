@@ -31,8 +31,27 @@ fieldFits (U32 n) = true
 fieldFits (U64 n) = true
 fieldFits (Name bs) = ltb (length (now bs)) 256
 fieldFits (Content bs) = ltb (length (now bs)) 4294967296
-fieldFits (Plain bs) = true
+fieldFits (Plain bs) = ltb (length (now bs)) 4294967296
+
+abbrev pub bodyBytes : List Field → List ℕ
+bodyBytes fs = many fieldBytes fs
+
+-- what comes to n with these fields, if all of it can be said in four bytes
+abbrev pub sized : ℕ → List Field → Option ℕ
+sized n fs = cond (every fieldFits fs && ltb (n + length (bodyBytes fs)) 4294967296) (Some (n + length (bodyBytes fs))) None
+
+-- can a line hold these fields; its length counts the tag too
+abbrev pub lineFits : List Field → Bool
+lineFits fs = every fieldFits fs && ltb (4 + length (bodyBytes fs)) 4294967296
 
 -- these bytes from a place on, and all else as it was
 unfoldable pub putAt : ℕ → List ℕ → List ℕ → List ℕ
 putAt at bs out = take at out ++ (bs ++ drop (at + length bs) out)
+
+-- a line is written if it can be and there is room: how long it is
+abbrev pub countOf : Bool → List ℕ → List ℕ → Option ℕ
+countOf fits line out = cond (fits && leb (length line) (length out)) (Some (length line)) None
+
+-- and what the buffer then holds
+abbrev pub afterOf : Bool → List ℕ → List ℕ → List ℕ
+afterOf fits line out = cond (fits && leb (length line) (length out)) (line ++ drop (length line) out) out
