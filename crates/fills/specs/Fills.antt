@@ -11,8 +11,8 @@ use Rattle.std.specs.declared.option.Option.the-variants.{Some, None}
 use Rattle.meaning.specs.Lists.{every}
 use Rattle.lines.specs.Fields.{number}
 use Rattle.lines.specs.Calls.{name, content, many, lineOf}
-use Rattle.answers.specs.declared.fills.Field.{Field}
-use Rattle.answers.specs.declared.fills.Field.the-variants.{U8, U16, U32, U64, Name, Content, Plain}
+use Rattle.fills.specs.declared.Field.{Field}
+use Rattle.fills.specs.declared.Field.the-variants.{U8, U16, U32, U64, Name, Content, Plain}
 
 abbrev pub fieldBytes : Field → List ℕ
 fieldBytes (U8 n) = number 1 n

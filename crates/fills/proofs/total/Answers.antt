@@ -2,9 +2,9 @@ use mathlib.Core.Path.{_≡_, sym, ap, _∙_}
 use Prim.Native.Nat.{_+_, _≤_}
 use native.Mathlib.Omega.{arith}
 use Rattle.std.proofs.shelf.Lists.{drop-all}
-use Rattle.answers.specs.Fills.{sized}
-use Rattle.answers.proofs.Sizes.{sized-step, sized-stop, sized-over, sized-none}
-use Rattle.answers.proofs.fills.total.Needs as need
+use Rattle.fills.specs.Fills.{sized}
+use Rattle.fills.proofs.Sizes.{sized-step, sized-stop, sized-over, sized-none}
+use Rattle.fills.proofs.total.Needs as need
 
 pub returns-in-Break-total : need.returns-in-Break-total
 returns-in-Break-total c = c .from-residual .ensures ∙ sym (sized-stop (c .args .fields .now) (c .loop-field .field-index) (c .loop-field .total) (c .loop-field-test .taken) (c .in-Break-total .ensures tt)) ∙ c .loop-field .inv .0

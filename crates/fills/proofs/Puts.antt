@@ -6,7 +6,7 @@ use native.Mathlib.Nat.{add-assoc, add-zero, zero-add}
 use native.Mathlib.Omega.{arith}
 use lib.ListN.{length, take, drop, length-append}
 use Rattle.std.proofs.shelf.Lists.{append-nil, take-append-drop, append-assoc, take-at, drop-at, drop-drop, length-take-le}
-use Rattle.answers.specs.Fills.{putAt}
+use Rattle.fills.specs.Fills.{putAt}
 
 pub put-put : (at : ℕ) (a b out : List ℕ) → at + length (a ++ b) ≤ length out → putAt (at + length a) b (putAt at a out) ≡ putAt at (a ++ b) out
 unfolding putAt

@@ -13,9 +13,9 @@ use Rattle.std.specs.declared.option.Option.{Option}
 use Rattle.std.specs.declared.option.Option.the-variants.{Some, None}
 use Rattle.meaning.specs.Lists.{every}
 use Rattle.lines.specs.Calls.{many, lineOf}
-use Rattle.answers.specs.declared.fills.Field.{Field}
-use Rattle.answers.specs.declared.fills.Field.the-variants.{U8}
-use Rattle.answers.specs.Fills.{fieldBytes, fieldFits, bodyBytes, sized, countOf, afterOf}
+use Rattle.fills.specs.declared.Field.{Field}
+use Rattle.fills.specs.declared.Field.the-variants.{U8}
+use Rattle.fills.specs.Fills.{fieldBytes, fieldFits, bodyBytes, sized, countOf, afterOf}
 
 pub body-more : (f : Field) (fs : List Field) → bodyBytes (f ∷ fs) ≡ fieldBytes f ++ bodyBytes fs
 unfolding many

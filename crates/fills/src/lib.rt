@@ -7,7 +7,7 @@ ghost use Rattle.std.specs.declared.option.Option.the-variants.{None, Some};
 ghost use Rattle.meaning.specs.Lists.{every};
 ghost use Rattle.lines.specs.Calls.{lineOf};
 ghost use Rattle.lines.specs.Fields.{number};
-ghost use Rattle.answers.specs.Fills.{afterOf, bodyBytes, countOf, fieldBytes, fieldFits, lineFits, putAt, sized};
+ghost use Rattle.fills.specs.Fills.{afterOf, bodyBytes, countOf, fieldBytes, fieldFits, lineFits, putAt, sized};
 
 #[derive(Clone, Copy)]
 pub enum Field<'a> {

@@ -1,8 +1,8 @@
 use mathlib.Core.Path.{_≡_}
 use Prim.Native.Nat.{_<_}
 use lib.ListN.{drop}
-use Rattle.answers.specs.Fills.{sized}
-use Rattle.answers.proofs.fills.total.Given as given
+use Rattle.fills.specs.Fills.{sized}
+use Rattle.fills.proofs.total.Given as given
 
 -- what is left decides
 abbrev pub Inv-loop-field : given.InvT-loop-field

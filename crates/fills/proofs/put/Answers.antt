@@ -1,7 +1,7 @@
 use borrow.Author.Needs.{needs}
 use Rattle.std.proofs.shelf.Parts.{overwrites}
-use Rattle.answers.specs.Fills.{putAt}
-use Rattle.answers.proofs.fills.put.Needs as need
+use Rattle.fills.specs.Fills.{putAt}
+use Rattle.fills.proofs.put.Needs as need
 
 pub returns : need.returns
 unfolding putAt

@@ -1,6 +1,6 @@
 use borrow.Author.Needs.{needs}
-use Rattle.answers.proofs.Puts.{put-put}
-use Rattle.answers.proofs.fills.put_field.Needs as need
+use Rattle.fills.proofs.Puts.{put-put}
+use Rattle.fills.proofs.put_field.Needs as need
 
 pub returns-in-Name : need.returns-in-Name
 returns-in-Name c = search (needs, put-put)

@@ -4,10 +4,10 @@ use Prim.Native.Nat.{ℕ, _+_, _≤_}
 use native.Mathlib.Omega.{arith}
 use lib.ListN.{length, drop, length-append}
 use Rattle.std.proofs.shelf.Lists.{drop-all}
-use Rattle.answers.specs.Fills.{bodyBytes, fieldBytes, putAt}
-use Rattle.answers.proofs.Puts.{put-put, put-none}
-use Rattle.answers.proofs.Sizes.{at, body-step, body-none, fit-step}
-use Rattle.answers.proofs.fills.put_fields.Needs as need
+use Rattle.fills.specs.Fills.{bodyBytes, fieldBytes, putAt}
+use Rattle.fills.proofs.Puts.{put-put, put-none}
+use Rattle.fills.proofs.Sizes.{at, body-step, body-none, fit-step}
+use Rattle.fills.proofs.put_fields.Needs as need
 
 pub put-field-at-requires : need.put-field-at-requires
 put-field-at-requires c κs =

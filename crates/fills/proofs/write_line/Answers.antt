@@ -6,10 +6,10 @@ use lib.ListN.{length}
 use Rattle.std.specs.declared.option.Option.the-variants.{Some}
 use Rattle.lines.specs.Calls.{lineOf}
 use Rattle.lines.specs.Fields.{number}
-use Rattle.answers.specs.Fills.{bodyBytes, lineFits, putAt}
-use Rattle.answers.proofs.Puts.{put-line}
-use Rattle.answers.proofs.Sizes.{told-some, goes, line-long}
-use Rattle.answers.proofs.fills.write_line.Needs as need
+use Rattle.fills.specs.Fills.{bodyBytes, lineFits, putAt}
+use Rattle.fills.proofs.Puts.{put-line}
+use Rattle.fills.proofs.Sizes.{told-some, goes, line-long}
+use Rattle.fills.proofs.write_line.Needs as need
 
 pub returns : need.returns
 returns c =

@@ -3,8 +3,8 @@ use mathlib.Core.Path.{_≡_}
 use Prim.Native.Nat.{_+_}
 use lib.ListN.{length, drop}
 use Rattle.meaning.specs.Lists.{every}
-use Rattle.answers.specs.Fills.{bodyBytes, fieldFits, putAt}
-use Rattle.answers.proofs.fills.put_fields.Given as given
+use Rattle.fills.specs.Fills.{bodyBytes, fieldFits, putAt}
+use Rattle.fills.proofs.put_fields.Given as given
 
 -- what is left makes up the whole
 abbrev pub Inv-loop-field : given.InvT-loop-field

@@ -1,2 +1,0 @@
-// Answers as bytes.
-pub mod fills;
