@@ -31,13 +31,25 @@ fn size(field: Field<'_>) -> Option<usize>
         Field::U32(_) => Some(4),
         Field::U64(_) => Some(8),
         Field::Name(bytes) => {
-            if bytes.len() < 256 { Some(1 + bytes.len()) } else { None }
+            if bytes.len() < 256 {
+                Some(1 + bytes.len())
+            } else {
+                None
+            }
         }
         Field::Content(bytes) => {
-            if bytes.len() < 1 << 32 { Some(4 + bytes.len()) } else { None }
+            if bytes.len() < 1 << 32 {
+                Some(4 + bytes.len())
+            } else {
+                None
+            }
         }
         Field::Plain(bytes) => {
-            if bytes.len() < 1 << 32 { Some(bytes.len()) } else { None }
+            if bytes.len() < 1 << 32 {
+                Some(bytes.len())
+            } else {
+                None
+            }
         }
     }
 }

@@ -23,9 +23,10 @@ returns c =
     let g = goes (lineFits fs) (lineOf tag body) out (told .0) room in
     let n : c .put-fields .result ≡ length (lineOf tag body) = omega (arith, c .put-fields .ensures .at, c .put-u32-at .ensures .at, c .put-u32-at-2 .ensures .at) in
     let now : c .put-fields .last .out ≡ putAt (c .put-u32-at-2 .result) body (putAt (c .put-u32-at .result) (number 4 tag) (putAt 0 (number 4 (4 + length body)) out)) =
-        c .put-fields .ensures .out
-        ∙ ap (λ (l : List ℕ). putAt (c .put-u32-at-2 .result) body l) (c .put-u32-at-2 .ensures .out
-          ∙ ap (λ (l : List ℕ). putAt (c .put-u32-at .result) (number 4 tag) l) (c .put-u32-at .ensures .out ∙ ap (λ (k : ℕ). putAt 0 (number 4 k) out) (told .1))) in
+    c .put-fields .ensures .out
+    ∙ ap (λ (l : List ℕ). putAt (c .put-u32-at-2 .result) body l) (c .put-u32-at-2 .ensures .out
+    ∙ ap (λ (l : List ℕ). putAt (c .put-u32-at .result) (number 4 tag) l) (c .put-u32-at .ensures .out ∙ ap (λ (k : ℕ). putAt 0 (number 4 k) out) (told .1))) in
     record {
-        count = ap Some n ∙ sym (g .0);
-        after = now ∙ put-line (number 4 (4 + length body)) (number 4 tag) body out (c .put-u32-at .result) (c .put-u32-at-2 .result) (c .put-u32-at .ensures .at) (c .put-u32-at-2 .ensures .at) room ∙ sym (g .1) }
+      count = ap Some n ∙ sym (g .0);
+      after = now ∙ put-line (number 4 (4 + length body)) (number 4 tag) body out (c .put-u32-at .result) (c .put-u32-at-2 .result) (c .put-u32-at .ensures .at) (c .put-u32-at-2 .ensures .at) room ∙ sym (g .1);
+    }

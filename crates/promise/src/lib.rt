@@ -1,0 +1,1 @@
+// The promise of the whole is in specs/Promise.antt.
