@@ -47,12 +47,23 @@ module _ {A : Type 0} {I : Drives → Type 0} {Q : A → Drives → Type 0} wher
       at Upto.here = j
       at (Upto.syncs u) = h .always u
 
+  pub does-more : {I' : Drives → Type 0} {Q' : A → Drives → Type 0} {p : Io A} {d : Drives} → ((e : Drives) → I e → I' e) → ((a : A) (e : Drives) → Q a e → Q' a e) → Does I Q p d → Does I' Q' p d
+  does-more i q h = record { always = λ u. i _ (h .always u); ends = q _ _ (h .ends) }
+
 -- one program after the other
 pub does-then : {A B : Type 0} {I : Drives → Type 0} {Q : A → Drives → Type 0} {R : B → Drives → Type 0} (p : Io A) (f : A → Io B) {d : Drives} →
     Does I Q p d → ((a : A) (e : Drives) → Q a e → Does I R (f a) e) → Does I R (then' p f) d
 does-then {I = I} {R = R} p f {d} h k =
     let later = k (run p d .value) (run p d .drives) (h .ends) in
     record { always = λ u. ⊎-elim (h .always) (later .always) (upto-then p f u); ends = subst⁻¹ (λ r. R (r .value) (r .drives)) (run-then p f d) (later .ends) }
+
+-- A LOOP of any length: L n holds while the steps below n are still to be done
+module _ {A : Type 0} {I : Drives → Type 0} {Q : A → Drives → Type 0} {f : ℕ → Io A → Io A} {p : Io A} (L : ℕ → Drives → Type 0)
+  (step : (n : ℕ) (q : Io A) (d : Drives) → L (suc n) d → ((e : Drives) → L n e → Does I Q q e) → Does I Q (f n q) d) (rest : (e : Drives) → L 0 e → Does I Q p e) where
+  pub does-loop : (n : ℕ) {d : Drives} → L n d → Does I Q (onEach n f p) d
+  unfolding onEach
+  does-loop zero {d} h = rest d h
+  does-loop (suc n) {d} h = step n (onEach n f p) d h (λ e g. does-loop n g)
 
 -- ALL SIX DRIVES
 

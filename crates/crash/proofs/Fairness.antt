@@ -19,10 +19,13 @@ pub record AtMost {A : Type 0} (m : ℕ) (p : Io A) : Type 0 where
   pub asks : (d : Drives) → opsOf p d ≤ m
 
 module _ {A : Type 0} {size : ℕ} where
-  pub fair-each : {f : ℕ → Io A → Io A} {p : Io A} → ((i : ℕ) (q : Io A) → i < 6 → FairAnywhere size q → FairAnywhere size (f i q)) → FairAnywhere size p → (n : ℕ) → n ≤ 6 → FairAnywhere size (onEach n f p)
+  below-fair : (N : ℕ) {f : ℕ → Io A → Io A} {p : Io A} → ((i : ℕ) (q : Io A) → i < N → FairAnywhere size q → FairAnywhere size (f i q)) → FairAnywhere size p → (n : ℕ) → n ≤ N → FairAnywhere size (onEach n f p)
   unfolding onEach
-  fair-each st h zero l = h
-  fair-each {f} {p} st h (suc n) l = st n (onEach n f p) (omega arith) (fair-each st h n (omega arith))
+  below-fair N st h zero l = h
+  below-fair N {f} {p} st h (suc n) l = st n (onEach n f p) (omega arith) (below-fair N st h n (omega arith))
+
+  pub fair-each : (n : ℕ) {f : ℕ → Io A → Io A} {p : Io A} → ((i : ℕ) (q : Io A) → i < n → FairAnywhere size q → FairAnywhere size (f i q)) → FairAnywhere size p → FairAnywhere size (onEach n f p)
+  fair-each n st h = below-fair n st h n (omega arith)
 
   pub fair-write : (t : ℕ → Bool) {s : ℕ} (b : ℕ → List ℕ) → s < size → ((i : ℕ) → i < 6 → length (b i) ≡ 512) → ((i : ℕ) → i < 6 → T (allBytes (b i))) →
       (i : ℕ) (q : Io A) → i < 6 → FairAnywhere size q → FairAnywhere size (writeIf t s b i q)

@@ -328,38 +328,37 @@ module _ (K : Codec) (law : Lawful K) where
 
     -- BOUNDS: whatever the labels, all that is asked is fair
 
+    record-whole : (r : Record (K .V)) → length (K .encode (has r)) ≡ 512
+    record-whole r = ⊎-elim (λ e. let z : _≡_ {A = ℕ} 0 1 = cc in absurd (omega arith)) (λ e. e) (law .whole (has r))
+
     fair-settle : {A : Type 0} → 0 < size → (t : List ℕ → Bool) (r : Record (K .V)) (a : A) (f : ℕ → List ℕ) → FairAnywhere size (settle K t r a f)
     unfolding settle
-    fair-settle l t r a f =
-        fair-each (fair-write (λ i. t (f i)) (λ i. K .encode (has r)) l (λ i b. record-whole) (λ i b. law .bytes (has r))) (fair-each fair-sync (λ d. Fair.ends a d) 6 (omega arith)) 6 (omega arith)
-      where
-        record-whole : length (K .encode (has r)) ≡ 512
-        record-whole = ⊎-elim (λ e. let z : _≡_ {A = ℕ} 0 1 = cc in absurd (omega arith)) (λ e. e) (law .whole (has r))
+    fair-settle l t r a f = fair-each 6 (fair-write (λ i. t (f i)) (λ i. K .encode (has r)) l (λ i b. record-whole r) (λ i b. law .bytes (has r))) (fair-each 6 fair-sync (λ d. Fair.ends a d))
 
     fair-opening : 0 < size → (o : Option (K .V)) (f : ℕ → List ℕ) → FairAnywhere size (opening K o f)
     unfolding opening
-    fair-opening l none f = fair-settle l (λ b. true) empty empty f
-    fair-opening l (some v) f = fair-settle l (trusted K) (committed v) (committed v) f
+    fair-opening l none f = fair-settle l _ _ _ f
+    fair-opening l (some v) f = fair-settle l _ _ _ f
 
     fair-call : 0 < size → (c : Call (K .V)) (m : Record (K .V)) → FairAnywhere size (does K c m)
     unfolding does
-    fair-call l (Set v) m = fair-read-all l (fair-settle l (trusted K) (committed v) (record { reply = Done; mem = committed v }))
-    fair-call l Get m = λ d. Fair.ends (record { reply = Payload (payload K m); mem = m }) d
+    fair-call l (Set v) m = fair-read-all l (fair-settle l _ _ _)
+    fair-call l Get m = λ d. Fair.ends _ d
 
     ops-settle : {A : Type 0} (t : List ℕ → Bool) (r : Record (K .V)) (a : A) (f : ℕ → List ℕ) → AtMost 12 (settle K t r a f)
     unfolding settle
     ops-settle t r a f = ops-each 1 (ops-write (λ i. t (f i)) 0 (λ i. K .encode (has r))) (ops-each 1 ops-sync (ops-answer a) 6) 6
 
-    mending-short : (m : Record (K .V)) (d : Drives) → opsOf (machine K .mends m) d ≤ longest
-    mending-short m d = omega (arith, ops-read-all {A = record { whole : Bool; mem : Record (K .V) }} 0 (ops-settle (untrusted K) m (record { whole = true; mem = m })) .asks d)
+    mending-short : (m : Record (K .V)) → AtMost 18 (machine K .mends m)
+    mending-short m = ops-read-all 0 (ops-settle _ _ _)
 
     pub root-bounded : smallest ≤ size → Bounded (judge K size) (machine K) size Off (λ s n ws m d. On n ws m d s)
     root-bounded lo =
         let l : 0 < size = omega arith in
         record {
-          opening = λ {d = d} h. fair-read-all l (λ f. fair-opening l (lowest K 6 none f) f) d;
+          opening = λ {d = d} h. fair-read-all l (λ f. fair-opening l _ f) d;
           calling = λ c {m = m} {d = d} h. fair-call l c m d;
-          mending = λ {m = m} {d = d} h. (fair-read-all l (fair-settle l (untrusted K) m (record { whole = true; mem = m })) d, mending-short m d);
+          mending = λ {m = m} {d = d} h. (fair-read-all l (fair-settle l _ _ _) d, omega (arith, mending-short m .asks d));
         }
 
   -- TRUST IS EARNED

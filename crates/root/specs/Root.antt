@@ -141,3 +141,8 @@ Earned K =
 -- THE ROOT STANDS: whatever happens, and whatever becomes of two drives, what was set is got.
 abbrev pub RootStands : Codec → Type 0
 RootStands K = Keeps (judge K) (machine K) × Within (machine K) × Earned K
+
+-- A contract can't speak of all codecs at once. So it cites the theorem at one, which is whatever the caller gives.
+pub record LawfulCodec : Type 1 where
+  pub codec : Codec
+  pub lawful : Lawful codec
