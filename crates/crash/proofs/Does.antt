@@ -1,6 +1,6 @@
 -- Rules for `Does`: what holds wherever a program is stopped, and at its end.
 -- Assumes nothing.
-use mathlib.Core.Path.{_≡_, refl, sym, subst, subst⁻¹}
+use mathlib.Core.Path.{_≡_, refl, subst, subst⁻¹}
 use mathlib.Core.Logic.{_⊎_, inl, inr, ⊎-elim}
 use mathlib.Core.Bool.{Bool, true, false, cond}
 use mathlib.Core.List.{List, []}
@@ -8,9 +8,9 @@ use Prim.Native.Nat.{ℕ, zero, suc, _<_, _≤_}
 use native.Mathlib.Omega.{arith}
 use Rattle.drives.specs.Drives.{Slot, Drives, shown, writtenTo, syncedOne, put, Io, then', run, Upto}
 use Rattle.drives.proofs.Programs.{run-then, upto-then}
-use Rattle.crash.specs.Loops.{onEach, writeIf, syncs, gather, readAll, syncAll}
+use Rattle.crash.specs.Loops.{onEach, writeIf, syncs, gather, readAll}
 use Rattle.crash.specs.Refinement.{Does}
-use Rattle.crash.proofs.Updates.{same?, put-elim, put-at, put-off, put-same}
+use Rattle.crash.proofs.Updates.{same?, put-elim, put-off, put-same}
 
 -- EACH KIND OF STEP
 
@@ -59,7 +59,7 @@ does-then {I = I} {R = R} p f {d} h k =
 
 -- A LOOP of any length: L n holds while the steps below n are still to be done
 module _ {A : Type 0} {I : Drives → Type 0} {Q : A → Drives → Type 0} {f : ℕ → Io A → Io A} {p : Io A} (L : ℕ → Drives → Type 0)
-  (step : (n : ℕ) (q : Io A) (d : Drives) → L (suc n) d → ((e : Drives) → L n e → Does I Q q e) → Does I Q (f n q) d) (rest : (e : Drives) → L 0 e → Does I Q p e) where
+    (step : (n : ℕ) (q : Io A) (d : Drives) → L (suc n) d → ((e : Drives) → L n e → Does I Q q e) → Does I Q (f n q) d) (rest : (e : Drives) → L 0 e → Does I Q p e) where
   pub does-loop : (n : ℕ) {d : Drives} → L n d → Does I Q (onEach n f p) d
   unfolding onEach
   does-loop zero {d} h = rest d h
@@ -80,7 +80,7 @@ writtenIf t s b i x = cond (t i) (writtenTo s (b i) x) x
 module _ {A : Type 0} {I : Drives → Type 0} {Q : A → Drives → Type 0} where
   -- Each drive is as F says before its step, as G says after it, and as J says all along.
   module _ {f : ℕ → Io A → Io A} {act : ℕ → Slot → Slot} {p : Io A} {F G J : ℕ → Slot → Type 0} (acts : Acts I Q f act) (stop : (e : Drives) → Each J e → I e)
-    (before : (i : ℕ) (x : Slot) → F i x → J i x) (after : (i : ℕ) (x : Slot) → G i x → J i x) (step : (i : ℕ) (x : Slot) → i < 6 → F i x → G i (act i x)) (rest : (e : Drives) → Each G e → Does I Q p e) where
+      (before : (i : ℕ) (x : Slot) → F i x → J i x) (after : (i : ℕ) (x : Slot) → G i x → J i x) (step : (i : ℕ) (x : Slot) → i < 6 → F i x → G i (act i x)) (rest : (e : Drives) → Each G e → Does I Q p e) where
     down : (n : ℕ) → n ≤ 6 → (d : Drives) → ((i : ℕ) → i < n → F i (d i)) → ((i : ℕ) → n ≤ i → i < 6 → G i (d i)) → Does I Q (onEach n f p) d
     unfolding onEach
     down zero l d todo done = rest d (λ i. done i (omega arith))
@@ -94,6 +94,7 @@ module _ {A : Type 0} {I : Drives → Type 0} {Q : A → Drives → Type 0} wher
             below : (i n : ℕ) → (i < n) ⊎ (n ≤ i)
             below i zero = inr (omega arith)
             below i (suc n) = ⊎-elim (λ e. inl (omega arith)) (λ m. ⊎-elim (λ k. inl (omega arith)) (λ k. inr (omega arith)) (below i n)) (same? i n)
+
         now : (i : ℕ) → n ≤ i → i < 6 → G i (put n (act n (d n)) d i)
         now i a b = put-elim (G i) n i (act n (d n)) d (λ e. subst⁻¹ (λ m. G m (act n (d n))) e (step n (d n) (omega arith) (todo n (omega arith)))) (λ m. done i (omega arith) b)
 

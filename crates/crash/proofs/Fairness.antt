@@ -7,8 +7,15 @@ use Prim.Native.Nat.{ℕ, zero, suc, _+_, _*_, _<_, _≤_}
 use native.Mathlib.Omega.{arith}
 use lib.Dec.{T}
 use lib.ListN.{length}
-use Rattle.drives.specs.Drives.{Drives, shown, writtenTo, syncedOne, put, Io, allBytes, Fair, opsOf}
+use Rattle.drives.specs.Drives.{Drives, shown, writtenTo, syncedOne, put, Io, then', run, allBytes, Fair, opsOf}
 use Rattle.crash.specs.Loops.{onEach, writeIf, syncs, gather, readAll}
+
+pub ops-then : {A B : Type 0} (p : Io A) (f : A → Io B) (d : Drives) → opsOf (then' p f) d ≡ opsOf p d + opsOf (f (run p d .value)) (run p d .drives)
+unfolding opsOf then' run
+ops-then (Io.answer a) f d = omega arith
+ops-then (Io.read i s k) f d = omega (arith, ops-then (k (shown (d i) s)) f d)
+ops-then (Io.write i s b p) f d = omega (arith, ops-then p f (put i (writtenTo s b (d i)) d))
+ops-then (Io.sync i p) f d = omega (arith, ops-then p f (put i (syncedOne (d i)) d))
 
 -- fair, wherever it starts
 abbrev pub FairAnywhere : {A : Type 0} → ℕ → Io A → Type 0

@@ -2,13 +2,12 @@
 -- Assumes nothing.
 use mathlib.Core.Path.{_≡_, refl}
 use mathlib.Core.Bool.{Bool, true, false}
-use mathlib.Core.List.{List, [], _∷_}
+use mathlib.Core.List.{List, _∷_}
 use Prim.Native.Nat.{ℕ, suc, _<_, _≤_}
 use native.Mathlib.Omega.{arith}
-use lib.ListN.{length}
 use Rattle.drives.specs.Drives.{smallest, largest, Drives}
-use Rattle.drives.specs.Machines.{Machine, Event, World, Trace, Judge, Allowed, Keeps, Within}
-use Rattle.crash.specs.Refinement.{Few, Fallen, counted, Refines, Bounded, Refinement, KeepsAt}
+use Rattle.drives.specs.Machines.{Machine, Event, World, Trace, Judge, Allowed}
+use Rattle.crash.specs.Refinement.{Few, Fallen, counted, Refines, Refinement, KeepsAt}
 use Rattle.crash.proofs.Weak.{few-after}
 
 module _ {C R : Type 0} (j : Judge C R) (e : Machine C R) (size : ℕ) (Off : (j .State → Type 0) → List ℕ → Drives → Type 0) (On : j .State → ℕ → List ℕ → e .Mem → Drives → Type 0) (r : Refines j e size Off On) where

@@ -2,11 +2,10 @@
 -- Assumes nothing.
 use mathlib.Core.Path.{_≡_, refl, sym, _∙_, ap, subst, subst⁻¹}
 use mathlib.Core.Logic.{_⊎_, inl, inr}
-use mathlib.Core.Bool.{Bool, true, false, cond}
+use mathlib.Core.Bool.{cond}
 use mathlib.Core.List.{List, [], _∷_, List·Memᴰ, List·Memᴰ·head, List·Memᴰ·tail, List·Memᴰ·not-nil}
-use Prim.Native.Nat.{ℕ, _<_}
-use lib.Dec.{eqb}
-use Rattle.drives.specs.Drives.{zeros, blankDrive, Drive, Slot, gone, there, Drives, latest, shown, writtenTo, syncedOne, CutSlot, nothing, cut, AfterCut}
+use Prim.Native.Nat.{ℕ}
+use Rattle.drives.specs.Drives.{zeros, blankDrive, Drive, Slot, gone, there, latest, shown, writtenTo, syncedOne, CutSlot, nothing, cut}
 use Rattle.crash.proofs.Updates.{eqb-same, put-off}
 
 -- A drive that is gone shows nothing, which is not the same as an empty sector.
@@ -105,3 +104,30 @@ module _ {s : ℕ} {C : Sight → Type 0} where
 
   pub holds-blank : C (sees (zeros 512)) → Holds s C (there blankDrive)
   holds-blank c = held c (λ b m. absurd (List·Memᴰ·not-nil m))
+
+-- CALM: all that a sector may hold is what it shows
+
+abbrev pub Calm : ℕ → Slot → Type 0
+Calm s x = Holds s (λ c. c ≡ sight s x) x
+
+pub calm-holds : {s : ℕ} {C : Sight → Type 0} {x : Slot} → Calm s x → C (sight s x) → Holds s C x
+calm-holds {C = C} h c = holds-more (λ b e. subst⁻¹ C e c) h
+
+pub calm-blank : (s : ℕ) → Calm s (there blankDrive)
+unfolding latest
+calm-blank s = holds-blank refl
+
+pub calm-sync : (s : ℕ) (x : Slot) → Calm s (syncedOne x)
+calm-sync s x = holds-synced x (sym (sight-sync s x))
+
+pub calm-write-off : {s t : ℕ} (b : List ℕ) (x : Slot) → (s ≡ t → ⊥) → Calm s x → Calm s (writtenTo t b x)
+calm-write-off {s} {t} b x n h = subst⁻¹ (λ (y : Sight). Holds s (λ c. c ≡ y) (writtenTo t b x)) (sight-write-off s t b x n) (holds-write-off b n h)
+
+-- after a cut every sector is, and one that was before shows the same
+pub calm-cut : (s : ℕ) {x y : Slot} → CutSlot x y → Calm s y
+unfolding latest
+calm-cut s nothing = away refl
+calm-cut s (cut d e k z) = held (ap (λ bs. sees (latest (e .kept s) bs)) (sym (z s))) (λ b m. absurd (List·Memᴰ·not-nil (subst (λ (y : List (List ℕ)). List·Memᴰ b y) (z s) m)))
+
+pub sight-cut : {s : ℕ} {x y : Slot} → CutSlot x y → Calm s x → sight s y ≡ sight s x
+sight-cut c h = holds-sight (holds-cut c h)

@@ -4,7 +4,7 @@ use mathlib.Core.Path.{_≡_, refl, sym, ap, subst}
 use mathlib.Core.Logic.{_⊎_, inl, inr}
 use mathlib.Core.Bool.{Bool, true, false, cond}
 use mathlib.Core.List.{List, [], _∷_, List·Memᴰ, List·Memᴰ·head, List·Memᴰ·tail, List·Memᴰ·not-nil}
-use Prim.Native.Nat.{ℕ, zero, suc, _<_, _≤_}
+use Prim.Native.Nat.{ℕ, suc, _<_, _≤_}
 use native.Mathlib.Omega.{arith}
 use lib.Dec.{eqb}
 use lib.ListN.{length}
@@ -36,6 +36,7 @@ weak-still i ws {j} m = go (same? j i)
         at : (b : Bool) → Weak (without i ks) j → Weak (cond b (without i ks) (k ∷ without i ks)) j
         at true h = h
         at false h = List·Memᴰ·tail h
+
     go : (j ≡ i) ⊎ (j ≡ i → ⊥) → Weak (i ∷ without i ws) j
     go (inl p) = List·Memᴰ·head p
     go (inr n) = List·Memᴰ·tail (keep ws n m)

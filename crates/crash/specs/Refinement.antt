@@ -1,11 +1,11 @@
 -- How a machine is shown to keep to a judge, and to stay within bounds: by an invariant, and one obligation for each kind of step.
 -- Assumes nothing.
 use mathlib.Core.Path.{_≡_}
-use mathlib.Core.Bool.{Bool, true, false, cond}
+use mathlib.Core.Bool.{Bool, false, cond}
 use mathlib.Core.List.{List, [], _∷_}
 use Prim.Native.Nat.{ℕ, suc, _<_, _≤_}
 use lib.ListN.{length}
-use Rattle.drives.specs.Drives.{smallest, largest, blankDrive, Slot, gone, there, Drives, put, AfterCut, Io, run, Upto, opsOf, Fair}
+use Rattle.drives.specs.Drives.{smallest, largest, blankDrive, gone, there, Drives, put, AfterCut, Io, run, Upto, opsOf, Fair}
 use Rattle.drives.specs.Machines.{longest, Machine, Judge, without, weakAfter, Keeps, Within}
 
 -- Does I Q p d: the program p, started on the drives d, has I wherever it is stopped, and Q of its answer and the drives at its end.

@@ -2,19 +2,19 @@
 -- Assumes nothing.
 use mathlib.Core.Path.{_≡_, refl, sym, _∙_, ap, subst}
 use mathlib.Core.Logic.{_⊎_, inl, inr}
-use mathlib.Core.Bool.{Bool, true, false, cond, _&&_, true≢false}
+use mathlib.Core.Bool.{Bool, true, false, cond, _&&_}
 use mathlib.Core.Option.{Option, none, some, Option·map}
 use mathlib.Core.List.{List, [], _∷_, _++_}
-use Prim.Native.Nat.{ℕ, zero, suc, _+_}
+use Prim.Native.Nat.{ℕ, zero, suc}
 use native.Mathlib.Omega.{arith}
-use lib.Dec.{T, T-prop, eqb, ltb, eqb→eq}
+use lib.Dec.{T, eqb, ltb, eqb→eq}
 use lib.ListN.{length, take, drop, length-append}
 use Rattle.std.specs.shelf.Text.{sameBytes}
 use Rattle.std.proofs.shelf.Equals.{sameBytes-decides}
 use Rattle.std.proofs.shelf.Lists.{take-all, take-append-le}
 use Rattle.drives.specs.Drives.{zeros, allBytes}
-use Rattle.root.specs.Root.{Label, missing, blank, rebuilding, has, Record, empty, committed, Codec, Lawful}
-use Rattle.root.specs.Labels.{isBlock, Block, when, blockOf, magic, sector, encode, committedFrom, decode, labels}
+use Rattle.root.specs.Root.{Label, missing, blank, rebuilding, has, empty, committed, Lawful}
+use Rattle.root.specs.Labels.{isBlock, Block, when, blockOf, sector, encode, committedFrom, decode, labels}
 
 -- LENGTHS AND BYTES
 

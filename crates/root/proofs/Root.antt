@@ -4,22 +4,21 @@ use mathlib.Core.Path.{_≡_, refl, sym, _∙_, ap, subst, subst⁻¹}
 use mathlib.Core.Logic.{_⊎_, inl, inr, ⊎-elim}
 use mathlib.Core.Bool.{Bool, true, false, cond, not, true≢false}
 use mathlib.Core.Option.{Option, none, some}
-use mathlib.Core.List.{List, [], _∷_, List·Memᴰ}
+use mathlib.Core.List.{List, [], _∷_}
 use Prim.Native.Nat.{ℕ, zero, suc, _<_, _≤_}
 use native.Mathlib.Omega.{arith}
-use lib.Dec.{T, lit<}
+use lib.Dec.{lit<}
 use lib.ListN.{length}
-use Rattle.drives.specs.Drives.{smallest, zeros, blankDrive, Slot, gone, there, Drives, put, shown, writtenTo, syncedOne, AfterCut, Io, opsOf, Fair, Upto}
-use Rattle.drives.specs.Machines.{longest, DoneOrNot, without, stillGone, weakAfter}
-use Rattle.crash.specs.Loops.{onEach, writeIf, syncs, syncAll}
-use Rattle.crash.specs.Refinement.{Does, Cuts, Few, Fallen, counted, Refines, Bounded}
+use Rattle.drives.specs.Drives.{smallest, zeros, blankDrive, Slot, gone, there, Drives, put, shown, writtenTo, AfterCut, Fair, Upto}
+use Rattle.drives.specs.Machines.{DoneOrNot, without, stillGone, weakAfter}
+use Rattle.crash.specs.Refinement.{Does, Cuts, Few, Fallen, counted, Refines, Bounded, Refinement}
 use Rattle.crash.proofs.Updates.{same?, put-elim}
 use Rattle.crash.proofs.Sectors.{Sight, nowhere, sees, sight, text, shown-sight, Holds, away, held, holds-sight, holds-more, holds-write, sight-write, holds-synced, holds-cut, holds-blank, shown-sync}
 use Rattle.crash.proofs.Weak.{Weak, weak-lost, weak-still, weak-gone, not-three}
 use Rattle.crash.proofs.Does.{does-answer, Each, writtenIf, does-each, acts-write, acts-sync, Read, does-read-all}
 use Rattle.crash.proofs.Fairness.{FairAnywhere, AtMost, fair-each, fair-write, fair-sync, fair-read-all, ops-answer, ops-each, ops-write, ops-sync, ops-read-all}
 use Rattle.crash.proofs.Refinement.{refined-keeps}
-use Rattle.root.specs.Root.{Record, empty, committed, Label, missing, blank, rebuilding, has, Codec, Lawful, recordOf, committedOf, isThere, recordIn, committedIn, trusted, untrusted, payload, Call, Set, Get, Reply, Done, Payload, Answers, sets, gets, judge, settle, orElse, lowest, opening, does, machine, NoneTrusted, Earned, RootStands}
+use Rattle.root.specs.Root.{Record, empty, committed, missing, blank, has, Codec, Lawful, recordOf, committedOf, isThere, recordIn, committedIn, trusted, untrusted, payload, Call, Set, Get, Reply, Done, Answers, sets, gets, judge, settle, orElse, lowest, opening, does, machine, NoNewTrust, Earned, RootStands}
 
 -- WHAT LABELS SAY
 
@@ -44,13 +43,16 @@ labelled-more w b p h i l = holds-more (may-more (w i) (b i) p) (h i l)
 labelled-cut : {K : Codec} {W B : ℕ → Type 0} {P : Record (K .V) → Type 0} {f g : Drives} → AfterCut f g → Labelled K W B P f → Labelled K W B P g
 labelled-cut c h i l = holds-cut (c i) (h i l)
 
+never : {A X : Type 0} {o : Option A} {a : A} → o ≡ none → o ≡ some a → X
+never p q = let z : _≡_ {A = ℕ} 0 1 = cc in absurd (omega arith)
+
 empty-is : {V : Type 0} (r : Record V) → committedOf (some r) ≡ none → r ≡ empty
 empty-is empty e = refl
-empty-is (committed v) e = let z : _≡_ {A = ℕ} 0 1 = cc in absurd (omega arith)
+empty-is (committed v) e = never e refl
 
 committed-is : {V : Type 0} {v : V} (o : Option (Record V)) → committedOf o ≡ some v → o ≡ some (committed v)
-committed-is none e = let z : _≡_ {A = ℕ} 0 1 = cc in absurd (omega arith)
-committed-is (some empty) e = let z : _≡_ {A = ℕ} 0 1 = cc in absurd (omega arith)
+committed-is none e = never refl e
+committed-is (some empty) e = never refl e
 committed-is (some (committed u)) e = let p : u ≡ _ = cc in ap (λ x. some (committed x)) p
 
 module _ (K : Codec) (law : Lawful K) where
@@ -66,9 +68,9 @@ module _ (K : Codec) (law : Lawful K) where
   -- what is read of a label
   module _ {G B : Type 0} {P : Record (K .V) → Type 0} where
     may-record : {c : Sight} {r : Record (K .V)} → May K G B P c → recordIn K (text c) ≡ some r → P r
-    may-record (lacks g) e = let z : _≡_ {A = ℕ} 0 1 = cc missing-bare in absurd (omega arith)
+    may-record (lacks g) e = never missing-bare e
     may-record {r = r} (shows q f p) e = let s : q ≡ r = cc in subst P s p
-    may-record (bare f b) e = let z : _≡_ {A = ℕ} 0 1 = cc in absurd (omega arith)
+    may-record (bare f b) e = never f e
 
     shown-record : {x : Slot} {r : Record (K .V)} → Holds 0 (May K G B P) x → recordIn K (shown x 0) ≡ some r → P r
     shown-record {x} {r} h e = may-record (holds-sight h) (subst (λ (b : List ℕ). recordIn K b ≡ some r) (shown-sight 0 x) e)
@@ -215,6 +217,7 @@ module _ (K : Codec) (law : Lawful K) where
       where
         stop : (e : Drives) → Labelled K (Weak ws) (Weak ws) (λ r. P (payload K r)) e → Cuts (Off (Fallen (judge K size) P) ws) e
         stop = cut-settled (λ r p. (payload K r, p, refl))
+
         go : (f : ℕ → List ℕ) → Read 0 d f → (o : Option (K .V)) → Found 0 f o → Does (Cuts (Off (Fallen (judge K size) P) ws)) (Opened P ws) (opening K o f) d
         go f read none nothing =
             let x = some-record l h in
@@ -250,8 +253,8 @@ module _ (K : Codec) (law : Lawful K) where
     unfolding does
     calls (Set v) {n = n} {ws} {m} (agreed h) =
         does-read-all 0 (λ f read.
-            does-settle (trusted-settle (λ q e. inl e) (inr refl)) (λ x f. (t : K .V) × Answers (Set v) (payload K m) (x .reply) t × On n ws (x .mem) f t) (record { reply = Done; mem = committed v })
-            (cut-settled either) (λ e g. (v, sets v (payload K m), agreed g)) f read h)
+        does-settle (trusted-settle (λ q e. inl e) (inr refl)) (λ x f. (t : K .V) × Answers (Set v) (payload K m) (x .reply) t × On n ws (x .mem) f t) (record { reply = Done; mem = committed v })
+        (cut-settled either) (λ e g. (v, sets v (payload K m), agreed g)) f read h)
       where
         either : (q : Record (K .V)) → (q ≡ m) ⊎ (q ≡ committed v) → judge K size .Cut (Set v) (payload K m) (payload K q)
         either q (inl e) = DoneOrNot.undone (ap (payload K) e)
@@ -264,8 +267,8 @@ module _ (K : Codec) (law : Lawful K) where
         Does (Cuts (Off (λ u. u ≡ s) ws)) (λ x f. (x .whole ≡ false → suc n < size) × On (counted (x .whole) n) (weakAfter (x .whole) f ws) (x .mem) f s) (machine K .mends m) d
     mends {n = n} {ws} {m} (agreed h) =
         does-read-all 0 (λ f read.
-            does-settle untrusted-settle (λ x f. (x .whole ≡ false → suc n < size) × On (counted (x .whole) n) (weakAfter (x .whole) f ws) (x .mem) f (payload K m)) (record { whole = true; mem = m })
-            (cut-settled (λ q e. ap (payload K) e)) (λ e g. (λ p. absurd (true≢false p), agreed (λ i l. gone-only e i (e i) refl (g i l)))) f read h)
+        does-settle untrusted-settle (λ x f. (x .whole ≡ false → suc n < size) × On (counted (x .whole) n) (weakAfter (x .whole) f ws) (x .mem) f (payload K m)) (record { whole = true; mem = m })
+        (cut-settled (λ q e. ap (payload K) e)) (λ e g. (λ p. absurd (true≢false p), agreed (λ i l. gone-only e i (e i) refl (g i l)))) f read h)
       where
         -- once every drive that is there has the record, only those that are gone are weak
         gone-only : (e : Drives) (i : ℕ) (x : Slot) → e i ≡ x → Holds 0 (May K (Weak ws i) ⊥ (λ q. q ≡ m)) x → Holds 0 (May K (Weak (stillGone e ws) i) (Weak (stillGone e ws) i) (λ q. q ≡ m)) x
@@ -364,7 +367,7 @@ module _ (K : Codec) (law : Lawful K) where
   -- TRUST IS EARNED
 
   -- where only trusted drives are written to, no other comes to be trusted
-  settle-earns : {A : Type 0} (r : Record (K .V)) (a : A) (f : ℕ → List ℕ) (d : Drives) → Read 0 d f → Does (NoneTrusted K d) (λ x e. Unit {0}) (settle K (trusted K) r a f) d
+  settle-earns : {A : Type 0} (r : Record (K .V)) (a : A) (f : ℕ → List ℕ) (d : Drives) → Read 0 d f → Does (NoNewTrust K d) (λ x e. Unit {0}) (settle K (trusted K) r a f) d
   unfolding settle
   settle-earns r a f d read =
       does-each {F = Same} {G = Same} {J = Same} (acts-write (λ j. trusted K (f j)) 0 (λ j. K .encode (has r))) (λ e h. h) (λ i x h. h) (λ i x h. h) writes
@@ -373,6 +376,7 @@ module _ (K : Codec) (law : Lawful K) where
     where
       Same : ℕ → Slot → Type 0
       Same i x = untrusted K (shown (d i) 0) ≡ true → shown x 0 ≡ shown (d i) 0
+
       writes : (i : ℕ) (x : Slot) → i < 6 → Same i x → Same i (writtenIf (λ j. trusted K (f j)) 0 (λ j. K .encode (has r)) i x)
       writes i x l h u = go (trusted K (f i)) (ap (trusted K) (read i l))
         where
@@ -384,26 +388,26 @@ module _ (K : Codec) (law : Lawful K) where
   unfolding does opening
   root-earned = (calls-earn, λ size i v d f b e u. does-read-all 0 (λ g read. go i v d b e g read (lowest K 6 none g) (found g)) .always u)
     where
-      calls-earn : (c : Call (K .V)) (m : Record (K .V)) (d f : Drives) → Upto (does K c m) d f → NoneTrusted K d f
-      calls-earn (Set v) m d f u = does-read-all 0 (λ g read. settle-earns (committed v) (record { reply = Done; mem = committed v }) g d read) .always u
+      calls-earn : (c : Call (K .V)) (m : Record (K .V)) (d f : Drives) → Upto (does K c m) d f → NoNewTrust K d f
+      calls-earn (Set v) m d f u = does-read-all 0 (λ g read. settle-earns _ _ g d read) .always u
       calls-earn Get m d f Upto.here = λ i l h. refl
-      go : (i : ℕ) (v : K .V) (d : Drives) → i < 6 → committedIn K (shown (d i) 0) ≡ some v → (g : ℕ → List ℕ) → Read 0 d g → (o : Option (K .V)) → Found 0 g o → Does (NoneTrusted K d) (λ x e. Unit {0}) (opening K o g) d
-      go i v d b e g read none nothing = let z : _≡_ {A = ℕ} 0 1 = cc (read i b, nothing i (omega arith) b) in absurd (omega arith)
-      go i v d b e g read (some u) found = settle-earns (committed u) (committed u) g d read
+
+      go : (i : ℕ) (v : K .V) (d : Drives) → i < 6 → committedIn K (shown (d i) 0) ≡ some v → (g : ℕ → List ℕ) → Read 0 d g → (o : Option (K .V)) → Found 0 g o → Does (NoNewTrust K d) (λ x e. Unit {0}) (opening K o g) d
+      go i v d b e g read none nothing = never (nothing i (omega arith) b) (ap (committedIn K) (read i b) ∙ e)
+      go i v d b e g read (some u) found = settle-earns _ _ g d read
+
+abbrev root-refinement : (K : Codec) → Lawful K → Refinement
+root-refinement K law =
+    record {
+      C = Call (K .V);
+      R = Reply (K .V);
+      j = judge K;
+      e = machine K;
+      Off = λ size. Off K law;
+      On = λ size s n ws m d. On K law n ws m d s;
+      refines = λ size lo hi. root-refines K law size;
+      bounded = λ size lo hi. root-bounded K law size lo;
+    }
 
 pub root-stands : (K : Codec) → Lawful K → RootStands K
-root-stands K law =
-    let (keeps, within) =
-        refined-keeps
-        (record {
-          C = Call (K .V);
-          R = Reply (K .V);
-          j = judge K;
-          e = machine K;
-          Off = λ size. Off K law;
-          On = λ size s n ws m d. On K law n ws m d s;
-          refines = λ size lo hi. root-refines K law size;
-          bounded = λ size lo hi. root-bounded K law size lo;
-        })
-    in
-    (keeps, within, root-earned K law)
+root-stands K law = let (keeps, within) = refined-keeps (root-refinement K law) in (keeps, within, root-earned K law)

@@ -47,10 +47,10 @@ committedFrom b p = cond (sameBytes b (sector 2 p)) (Option·map (λ v. has (com
 unfoldable pub decode : List ℕ → Option (Label Block)
 decode b =
     cond (sameBytes b []) (some missing)
-      (cond (sameBytes b (zeros 512)) (some blank)
-        (cond (sameBytes b (sector 3 (zeros 480))) (some rebuilding)
-          (cond (sameBytes b (sector 1 (zeros 480))) (some (has empty))
-            (committedFrom b (take 480 (drop 16 b))))))
+    (cond (sameBytes b (zeros 512)) (some blank)
+    (cond (sameBytes b (sector 3 (zeros 480))) (some rebuilding)
+    (cond (sameBytes b (sector 1 (zeros 480))) (some (has empty))
+    (committedFrom b (take 480 (drop 16 b))))))
 
 unfoldable pub firstBlock : Block
 unfolding zeros allBytes

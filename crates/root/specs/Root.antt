@@ -129,14 +129,14 @@ machine K =
 -- THE THEOREM
 
 -- what is not trusted in d shows the same label in f
-abbrev pub NoneTrusted : (K : Codec) → Drives → Drives → Type 0
-NoneTrusted K d f = (i : ℕ) → i < 6 → untrusted K (shown (d i) 0) ≡ true → shown (f i) 0 ≡ shown (d i) 0
+abbrev pub NoNewTrust : (K : Codec) → Drives → Drives → Type 0
+NoNewTrust K d f = (i : ℕ) → i < 6 → untrusted K (shown (d i) 0) ≡ true → shown (f i) 0 ≡ shown (d i) 0
 
 -- Trust is earned: no call makes a drive trusted, nor does an opening that finds something committed. Only mending does, and the opening of a house where there is nothing to lack.
 abbrev pub Earned : Codec → Type 0
 Earned K =
-    ((c : Call (K .V)) (m : Record (K .V)) (d f : Drives) → Upto (does K c m) d f → NoneTrusted K d f) ×
-    ((size i : ℕ) (v : K .V) (d f : Drives) → i < 6 → committedIn K (shown (d i) 0) ≡ some v → Upto (machine K .opens size) d f → NoneTrusted K d f)
+    ((c : Call (K .V)) (m : Record (K .V)) (d f : Drives) → Upto (does K c m) d f → NoNewTrust K d f) ×
+    ((size i : ℕ) (v : K .V) (d f : Drives) → i < 6 → committedIn K (shown (d i) 0) ≡ some v → Upto (machine K .opens size) d f → NoNewTrust K d f)
 
 -- THE ROOT STANDS: whatever happens, and whatever becomes of two drives, what was set is got.
 abbrev pub RootStands : Codec → Type 0
