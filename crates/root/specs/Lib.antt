@@ -1,0 +1,2 @@
+pub mod Root
+pub mod Labels
