@@ -1,0 +1,1 @@
+// Layers in code, and stacks of them.
