@@ -1,0 +1,4 @@
+pub mod Alike
+pub mod Mirror
+pub mod Does
+pub mod Stacked
