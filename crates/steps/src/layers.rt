@@ -63,6 +63,7 @@ pub trait Planner {
 pub impl<U: Planner<Call = L::Call, Reply = L::Reply>, L: Stepper> Stepper for Stack<U, L> as StackStepper {
     type Call = U::Outer;
     type Reply = U::Answer;
+    type Inside = (L::Call, L::Reply, L::Inside);
     type State = Stack<U::State, L::State>;
 
     ghost view = { λ s. record { upper = U·Planner .view (s .upper); lower = L·Stepper .view (s .lower); doing = s .doing } };

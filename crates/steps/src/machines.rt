@@ -12,6 +12,9 @@ pub trait Stepper {
     type Call;
     type Reply;
 
+    // what its parts say to each other: nothing, where it has none
+    type Inside;
+
     // what its steps speak of; a struct may hold more, as a bound on a field
     type State;
 
