@@ -1,9 +1,10 @@
 -- What the steps of a machine in code come to: a machine of programs that use drives.
 -- Assumes nothing.
-use mathlib.Core.Bool.{Bool}
-use mathlib.Core.List.{List, []}
-use Prim.Native.Nat.{ℕ, zero, suc, min}
-use lib.ListN.{take, drop, replicate}
+use mathlib.Core.Bool.{Bool, cond}
+use mathlib.Core.List.{List, [], _++_}
+use Prim.Native.Nat.{ℕ, zero, suc, _+_, min}
+use lib.Dec.{eqb}
+use lib.ListN.{length, take, drop, replicate}
 use Rattle.drives.specs.Drives.{Io, answer, read, write, sync, then'}
 use Rattle.drives.specs.Machines.{Machine}
 use Rattle.steps.specs.declared.Lent.{Lent}
@@ -40,6 +41,13 @@ unused = record { bytes = replicate 4096 0 }
 -- the sector that a request to write means
 abbrev pub sectorAt : ℕ → Lent → List ℕ
 sectorAt at lent = take 512 (drop (min at 3584) (lent .bytes))
+
+-- a sector put where a request to write means it; what is no sector is left out
+abbrev pub placed : ℕ → List ℕ → Lent → Lent
+placed at got lent =
+    cond (eqb (length got) 512)
+      (record { bytes = take (min at 3584) (lent .bytes) ++ (got ++ drop (min at 3584 + 512) (lent .bytes)) })
+      lent
 
 -- one request, and how it goes on
 abbrev pub performs : {A : Type 0} → Ask → Lent → (List ℕ → Io A) → A → Io A

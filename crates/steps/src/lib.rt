@@ -1,4 +1,6 @@
 // Machines in code: each does one step at a time and asks for one thing at a time, and is tied to the machine of the theorems.
+ghost use mathlib.Core.Path.{_≡_};
+ghost use Rattle.steps.specs.Steps.{unused, sectorAt, placed};
 pub mod machines;
 pub mod layers;
 
@@ -6,6 +8,35 @@ pub mod layers;
 #[derive(Drop)]
 pub struct Lent {
     pub bytes: [u8; 4096],
+}
+
+impl Lent {
+    // As it is at first.
+    pub fn clear(&mut self)
+        ensures { λ _. ⌜ now (self .exit) ≡ unused ⌝ }
+    {
+        self.bytes = [0; 4096];
+    }
+
+    // The sector that a request to write means.
+    pub fn sector(&self, at: usize) -> [u8; 512]
+        ensures { λ r. ⌜ r ≡ sectorAt at (now (self .entry)) ⌝ }
+    {
+        let a = at.min(3584);
+        let mut b = [0; 512];
+        b.copy_from_slice(&self.bytes[a..a + 512]);
+        b
+    }
+
+    // Puts a sector where a request to write means it; what is no sector is left out.
+    pub fn place(&mut self, at: usize, got: &[u8])
+        ensures { λ _. ⌜ now (self .exit) ≡ placed at (now (got .entry)) (now (self .entry)) ⌝ }
+    {
+        if got.len() == 512 {
+            let a = at.min(3584);
+            self.bytes[a..a + 512].copy_from_slice(got);
+        }
+    }
 }
 
 // What a step asks for. A sector that is written is the 512 lent bytes from `at` on, or the last ones.

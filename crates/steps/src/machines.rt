@@ -2,9 +2,9 @@
 ghost use mathlib.Core.Path.{_≡_};
 ghost use Prim.Native.Nat.{ℕ, _≤_};
 ghost use Rattle.drives.specs.Drives.{smallest, largest};
-ghost use Rattle.drives.specs.Machines.{Machine};
+ghost use Rattle.drives.specs.Machines.{Machine, Judge};
 ghost use Rattle.steps.specs.Steps.{Held, Stepped, Stepping};
-ghost use Rattle.steps.specs.Ties.{Tied};
+ghost use Rattle.steps.specs.Ties.{Tied, CodeKeeps, CodeWithin};
 use super::Ask;
 use super::Lent;
 
@@ -58,3 +58,18 @@ pub trait Stepper {
     fn is_whole(&self) -> bool
         ensures { λ r. ⌜ r ≡ code .whole (view (now (self .entry))) ⌝ };
 }
+
+// A machine in code, and the judge that it is held to.
+pub trait Judged: Stepper {
+    ghost judge: { ℕ → Judge Self·Call Self·Reply };
+}
+
+// What the readable machine keeps to, the code keeps to.
+pub fn code_keeps<M: Judged>()
+    ensures { λ _. ⌜ CodeKeeps (M·Stepper .code) (M·Stepper .most) (M·Stepper .machine) (M·Judged .judge) ⌝ }
+{}
+
+// The code is as fair as the readable machine, and its stretches are no longer.
+pub fn code_stays_within<M: Stepper>()
+    ensures { λ _. ⌜ CodeWithin (M·Stepper .code) (M·Stepper .most) (M·Stepper .machine) ⌝ }
+{}
