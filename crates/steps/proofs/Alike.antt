@@ -1,6 +1,6 @@
 -- Two programs that ask for the same and end alike: what one does on drives, the other does.
 -- Assumes nothing.
-use mathlib.Core.Path.{_≡_, refl, ap}
+use mathlib.Core.Path.{_≡_, refl, ap, subst}
 use mathlib.Core.List.{List}
 use Prim.Native.Nat.{ℕ, zero, suc, _+_, _≤_}
 use native.Mathlib.Omega.{arith}
@@ -18,6 +18,9 @@ pub record Same {A B : Type 0} (S : A → B → Type 0) (x : Ran A) (y : Ran B) 
   pub values : S (x .value) (y .value)
   pub drives : y .drives ≡ x .drives
 
+writes-same : {A B : Type 0} {S : A → B → Type 0} {i s : ℕ} {b c : List ℕ} {p : Io A} {q : Io B} → b ≡ c → Alike S p q → Alike S (Io.write i s b p) (Io.write i s c q)
+writes-same {S = S} {i = i} {s = s} {b = b} {p = p} {q = q} e x = subst (λ z. Alike S (Io.write i s b p) (Io.write i s z q)) e (Alike.writes x)
+
 -- with any budget that is enough, steps are what they go to
 pub goes-runs : {M A : Type 0} {f : Held M → List ℕ → Stepped M} {S : Held M → A → Type 0} {n : ℕ} {x : Stepped M} {p : Io A} → Goes f S n x p → (b : ℕ) → n ≤ b → Alike S (runs f b x) p
 unfolding runs
@@ -25,8 +28,8 @@ goes-runs (Goes.ends s) zero h = absurd (omega arith)
 goes-runs (Goes.ends s) (suc b) h = Alike.answers s
 goes-runs (Goes.reads k) zero h = absurd (omega arith)
 goes-runs (Goes.reads k) (suc b) h = Alike.reads (λ got. goes-runs (k got) b (omega arith))
-goes-runs (Goes.writes g) zero h = absurd (omega arith)
-goes-runs (Goes.writes g) (suc b) h = Alike.writes (goes-runs g b (omega arith))
+goes-runs (Goes.writes e g) zero h = absurd (omega arith)
+goes-runs (Goes.writes e g) (suc b) h = writes-same e (goes-runs g b (omega arith))
 goes-runs (Goes.syncs g) zero h = absurd (omega arith)
 goes-runs (Goes.syncs g) (suc b) h = Alike.syncs (goes-runs g b (omega arith))
 goes-runs (Goes.again g) zero h = absurd (omega arith)

@@ -29,12 +29,17 @@ module _ {M B : Type 0} {f : Held M → List ℕ → Stepped M} {S : Held M → 
   later {n = suc n} (Goes.ends s) h = Goes.ends s
   later {n = zero} (Goes.reads k) h = absurd (omega arith)
   later {n = suc n} (Goes.reads k) h = Goes.reads (λ got. later (k got) (omega arith))
-  later {n = zero} (Goes.writes g) h = absurd (omega arith)
-  later {n = suc n} (Goes.writes g) h = Goes.writes (later g (omega arith))
+  later {n = zero} (Goes.writes e g) h = absurd (omega arith)
+  later {n = suc n} (Goes.writes e g) h = Goes.writes e (later g (omega arith))
   later {n = zero} (Goes.syncs g) h = absurd (omega arith)
   later {n = suc n} (Goes.syncs g) h = Goes.syncs (later g (omega arith))
   later {n = zero} (Goes.again g) h = absurd (omega arith)
   later {n = suc n} (Goes.again g) h = Goes.again (later g (omega arith))
+
+  -- a test of the code and the same test of the program
+  pub whether : {n : ℕ} (v : Bool) {x y : Stepped M} {p q : Io B} → (v ≡ true → Goes f S n x p) → (v ≡ false → Goes f S n y q) → Goes f S n (cond v x y) (cond v p q)
+  whether true d e = d refl
+  whether false d e = e refl
 
   module _ {A : Type 0} {g : A → Io B} where
     pub more : {x : Stepped M} {p : Io A} {m n : ℕ} → Does f S m x p g → m ≤ n → Does f S n x p g
@@ -52,10 +57,10 @@ module _ {M B : Type 0} {f : Held M → List ℕ → Stepped M} {S : Held M → 
     unfolding then'
     reads d = record { go = Goes.reads (λ got. d got .go) }
 
-    pub writes : {n : ℕ} {me : M} {lent : Lent} {i s at : ℕ} {p : Io A} → Does f S n (f (record { me = me; lent = lent }) []) p g →
-        Does f S (suc n) (record { me = me; lent = lent; ask = Write i s at }) (write i s (sectorAt at lent) p) g
+    pub writes : {n : ℕ} {me : M} {lent : Lent} {i s at : ℕ} {b : List ℕ} {p : Io A} → sectorAt at lent ≡ b → Does f S n (f (record { me = me; lent = lent }) []) p g →
+        Does f S (suc n) (record { me = me; lent = lent; ask = Write i s at }) (write i s b p) g
     unfolding then'
-    writes d = record { go = Goes.writes (d .go) }
+    writes e d = record { go = Goes.writes e (d .go) }
 
     pub syncs : {n : ℕ} {me : M} {lent : Lent} {i : ℕ} {p : Io A} → Does f S n (f (record { me = me; lent = lent }) []) p g →
         Does f S (suc n) (record { me = me; lent = lent; ask = Sync i }) (sync i p) g
@@ -66,7 +71,6 @@ module _ {M B : Type 0} {f : Held M → List ℕ → Stepped M} {S : Held M → 
         Does f S (suc n) (record { me = me; lent = lent; ask = Again }) p g
     again d = record { go = Goes.again (d .go) }
 
-    -- a test of the code and the same test of the program
     pub if' : {n : ℕ} (v : Bool) {x y : Stepped M} {p q : Io A} → (v ≡ true → Does f S n x p g) → (v ≡ false → Does f S n y q g) → Does f S n (cond v x y) (cond v p q) g
     if' true d e = d refl
     if' false d e = e refl

@@ -2,3 +2,4 @@ pub mod Alike
 pub mod Mirror
 pub mod Does
 pub mod Stacked
+pub mod Lents

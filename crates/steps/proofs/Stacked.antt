@@ -36,7 +36,7 @@ module _ {U L C R C' R' : Type 0} (p : Planning C R C' R' U) (s : Stepping C R L
     unfolding then'
     below g (Goes.ends t) rest = later (rest _ _ t) (omega arith)
     below g (Goes.reads {n = n} k) rest = later {m = suc (n + m)} (Goes.reads (λ got. rw (stepped _ _ got) (below g (k got) rest))) (omega arith)
-    below g (Goes.writes {n = n} x) rest = later {m = suc (n + m)} (Goes.writes (rw (stepped _ _ []) (below g x rest))) (omega arith)
+    below g (Goes.writes {n = n} e x) rest = later {m = suc (n + m)} (Goes.writes e (rw (stepped _ _ []) (below g x rest))) (omega arith)
     below g (Goes.syncs {n = n} x) rest = later {m = suc (n + m)} (Goes.syncs (rw (stepped _ _ []) (below g x rest))) (omega arith)
     below g (Goes.again {n = n} x) rest = later {m = suc (n + m)} (Goes.again (rw (stepped _ _ []) (below g x rest))) (omega arith)
 

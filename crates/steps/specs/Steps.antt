@@ -1,5 +1,6 @@
 -- What the steps of a machine in code come to: a machine of programs that use drives.
 -- Assumes nothing.
+use mathlib.Core.Path.{_≡_}
 use mathlib.Core.Bool.{Bool, cond}
 use mathlib.Core.List.{List, [], _++_}
 use Prim.Native.Nat.{ℕ, zero, suc, _+_, min}
@@ -37,6 +38,10 @@ pub record Stepping (C R M : Type 0) : Type 0 where
 -- lent memory as it is at first
 abbrev pub unused : Lent
 unused = record { bytes = replicate 4096 0 }
+
+-- all of it is there; a machine that reads back what it put there says so of what it holds between calls
+abbrev pub Ample : Lent → Type 0
+Ample lent = length (lent .bytes) ≡ 4096
 
 -- the sector that a request to write means
 abbrev pub sectorAt : ℕ → Lent → List ℕ

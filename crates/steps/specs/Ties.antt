@@ -15,8 +15,8 @@ pub data Goes {M A : Type 0} (f : Held M → List ℕ → Stepped M) (S : Held M
   ends : {n : ℕ} {me : M} {lent : Lent} {a : A} → S (record { me = me; lent = lent }) a → Goes f S (suc n) (record { me = me; lent = lent; ask = Done }) (answer a)
   reads : {n : ℕ} {me : M} {lent : Lent} {i s : ℕ} {k : List ℕ → Io A} → ((got : List ℕ) → Goes f S n (f (record { me = me; lent = lent }) got) (k got)) →
       Goes f S (suc n) (record { me = me; lent = lent; ask = Read i s }) (read i s k)
-  writes : {n : ℕ} {me : M} {lent : Lent} {i s at : ℕ} {p : Io A} → Goes f S n (f (record { me = me; lent = lent }) []) p →
-      Goes f S (suc n) (record { me = me; lent = lent; ask = Write i s at }) (write i s (sectorAt at lent) p)
+  writes : {n : ℕ} {me : M} {lent : Lent} {i s at : ℕ} {b : List ℕ} {p : Io A} → sectorAt at lent ≡ b → Goes f S n (f (record { me = me; lent = lent }) []) p →
+      Goes f S (suc n) (record { me = me; lent = lent; ask = Write i s at }) (write i s b p)
   syncs : {n : ℕ} {me : M} {lent : Lent} {i : ℕ} {p : Io A} → Goes f S n (f (record { me = me; lent = lent }) []) p →
       Goes f S (suc n) (record { me = me; lent = lent; ask = Sync i }) (sync i p)
   again : {n : ℕ} {me : M} {lent : Lent} {p : Io A} → Goes f S n (f (record { me = me; lent = lent }) []) p →
