@@ -1,0 +1,5 @@
+pub mod Alike
+pub mod Mirror
+pub mod Does
+pub mod Stacked
+pub mod Lents
