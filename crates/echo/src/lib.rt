@@ -2,7 +2,10 @@
 ghost use mathlib.Core.Path.{_≡_};
 ghost use Rattle.echo.specs.Echoes.{echoCode, echoes, echoSame};
 ghost use Rattle.echo.specs.Twices.{twiceCode, twices, twiceSame};
+ghost use Rattle.drives.specs.Layers.{over};
+ghost use Rattle.steps.specs.Steps.{Ample};
 ghost use Rattle.steps.specs.Stacks.{Asked};
+ghost use Rattle.driver.specs.Loops.{Ends};
 use driver::Disks;
 use steps::Ask;
 use steps::Lent;
@@ -162,8 +165,9 @@ pub impl Planner for Twice as TwicePlanner {
     }
 }
 
-// A stack of both, and the loop: the layer over the machine, run on drives.
+// The layer over the machine, run on drives.
 pub fn copy_two<D: Disks>(m: &mut Stack<Twice, Echo>, lent: &mut Lent, d: &mut D, c: u64) -> bool
+    ensures { λ r. ⌜ (D·Disks .known (now (d .entry)) → Ample (now (lent .entry)) → Ends (λ y. r ≡ y .reply) (over echoes twices .does c (record { below = tt; above = tt })) (D·Disks .model (now (d .entry))) (D·Disks .model (now (d .exit)))) ⌝ }
 {
     driver::call(m, lent, d, c, 1000)
 }
