@@ -1,1 +1,5 @@
+pub mod Names
+pub mod Good
 pub mod Refusals
+pub mod Found
+pub mod Ruled
