@@ -3,3 +3,4 @@ pub mod Good
 pub mod Refusals
 pub mod Found
 pub mod Ruled
+pub mod Listed

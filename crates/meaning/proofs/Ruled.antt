@@ -10,6 +10,9 @@ use Rattle.std.proofs.shelf.Ways.{tells}
 use Rattle.meaning.specs.Lists.{Name, find}
 use Rattle.meaning.specs.Rooms.{Body, Bytes, Removed, Version, Object, Rule, Room, State, Call, Tick, Out}
 use Rattle.meaning.specs.Does.{no, does, acts, isTick, isRoom, isObject, isHeld, isRemoved, due, ruleFor, oldKept, tidy, covered, aged, kept, agedObjects, agedRoom, later, ticked, small, withObjects, withRooms, versionsOf}
+use Rattle.meaning.specs.Laws.{versionsIn, alone}
+use Rattle.meaning.proofs.Names.{same-unlike, same-eq, less-unlike}
+use Rattle.meaning.proofs.Found.{nil-cons, find-none, found-in, found-passes, find-map}
 use Rattle.meaning.proofs.Good.{Pairs, Over, Before}
 
 -- THE SAME TIME AGAIN
@@ -161,3 +164,93 @@ time-again s t p =
       where
         same-now : later t now ≡ now
         same-now = grind (arith, tells)
+
+-- EACH THING ALONE
+
+abbrev roomAlone : Name → Room → Room
+roomAlone k r = withObjects (find (isObject k) (r .objects)) r
+
+-- a key that isn't there doesn't come by a rule
+absent-aged : (now : ℕ) (r : Room) (k : Name) (os : List Object) → find (isObject k) os ≡ [] → find (isObject k) (agedObjects now r os) ≡ []
+unfolding find agedObjects kept
+absent-aged now r k [] e = refl
+absent-aged now r k (o ∷ os) e = go (aged now (r .keeps) (ruleFor (o .key) (r .rules)) (o .versions)) (isObject k o) refl e (absent-aged now r k os)
+  where
+    go : (vs : List Version) (b : Bool) → isObject k o ≡ b → cond b (o ∷ []) (find (isObject k) os) ≡ [] → (find (isObject k) os ≡ [] → find (isObject k) (agedObjects now r os) ≡ []) →
+      find (isObject k) (kept (o .key) vs (agedObjects now r os)) ≡ []
+    go vs true f e rest = absurd (nil-cons (sym e))
+    go [] false f e rest = rest e
+    go (v ∷ vs) false f e rest = rw f (rest e)
+
+-- no key comes twice, so what follows it is other things
+only-once : (k : Name) (o : Object) (os : List Object) → Pairs Before (o ∷ os) → isObject k o ≡ true → find (isObject k) os ≡ []
+only-once k o os p e = find-none (isObject k) os (λ q m. same-unlike k (q .key) (λ f. less-unlike (o .key) (q .key) (p .0 q m) (sym (same-eq k (o .key) e) ∙ f)))
+
+aged-alone : (now : ℕ) (r : Room) (k : Name) (os : List Object) → Pairs Before os → versionsOf (find (isObject k) (agedObjects now r os)) ≡ versionsOf (find (isObject k) (agedObjects now r (find (isObject k) os)))
+unfolding find agedObjects kept
+aged-alone now r k [] p = refl
+aged-alone now r k (o ∷ os) p =
+    (elim (isObject k o)
+        as (λ b. isObject k o ≡ b → versionsOf (find (isObject k) (kept (o .key) left (agedObjects now r os))) ≡ versionsOf (find (isObject k) (agedObjects now r (cond b (o ∷ []) (find (isObject k) os)))))
+      [ true ↦ λ e. itself left e (absent-aged now r k os (only-once k o os p e))
+      | false ↦ λ e. other left e ∙ aged-alone now r k os (p .1) ]) refl
+  where
+    left : List Version
+    left = aged now (r .keeps) (ruleFor (o .key) (r .rules)) (o .versions)
+    itself : (vs : List Version) → isObject k o ≡ true → find (isObject k) (agedObjects now r os) ≡ [] → versionsOf (find (isObject k) (kept (o .key) vs (agedObjects now r os))) ≡ versionsOf (find (isObject k) (kept (o .key) vs []))
+    itself [] e f = ap versionsOf f
+    itself (v ∷ vs) e f = rw e refl
+    other : (vs : List Version) → isObject k o ≡ false → versionsOf (find (isObject k) (kept (o .key) vs (agedObjects now r os))) ≡ versionsOf (find (isObject k) (agedObjects now r os))
+    other [] e = refl
+    other (v ∷ vs) e = rw e refl
+
+-- a thing found among one is that one
+find-again : (k : Name) (os : List Object) → find (isObject k) (find (isObject k) os) ≡ find (isObject k) os
+unfolding find
+find-again k [] = refl
+find-again k (o ∷ os) =
+    (elim (isObject k o) as (λ b. isObject k o ≡ b → find (isObject k) (cond b (o ∷ []) (find (isObject k) os)) ≡ cond b (o ∷ []) (find (isObject k) os))
+      [ true ↦ λ e. rw e refl
+      | false ↦ λ e. find-again k os ]) refl
+
+-- alone, the room is still the one of its name
+room-alone : (s : State) (n k : Name) (r : Room) (q : List Room) → find (isRoom n) (s .rooms) ≡ r ∷ q → find (isRoom n) (alone n k s .rooms) ≡ roomAlone k r ∷ []
+unfolding find
+room-alone s n k r q e = rw (e, found-passes (isRoom n) (s .rooms) r q e) refl
+
+-- what stands under a key: of the room of that name, if there is one
+in-found : (s : State) (n k : Name) (r : Room) (q : List Room) → find (isRoom n) (s .rooms) ≡ r ∷ q → versionsIn n k s ≡ versionsOf (find (isObject k) (r .objects))
+in-found s n k r q e = rw e refl
+
+in-none : (s : State) (n k : Name) → find (isRoom n) (s .rooms) ≡ [] → versionsIn n k s ≡ []
+in-none s n k e = rw e refl
+
+room-told : (now : ℕ) (s : State) (n : Name) (rs : List Room) → find (isRoom n) (s .rooms) ≡ rs → find (isRoom n) (ticked now s .rooms) ≡ map (agedRoom now) rs
+room-told now s n rs e = find-map (isRoom n) (agedRoom now) (λ r. refl) (s .rooms) ∙ ap (map (agedRoom now)) e
+
+-- told the time, and not told it, a thing is as it would be alone
+alone-told : (now : ℕ) (s : State) (n k : Name) (rs : List Room) → find (isRoom n) (s .rooms) ≡ rs → ((r : Room) → List·Memᴰ r (s .rooms) → Pairs Before (r .objects)) →
+  versionsIn n k (ticked now s) ≡ versionsIn n k (ticked now (alone n k s))
+unfolding find
+alone-told now s n k [] e p = in-none (ticked now s) n k (room-told now s n [] e) ∙ sym (in-none (ticked now (alone n k s)) n k (room-told now (alone n k s) n [] (rw e refl)))
+alone-told now s n k (r ∷ q) e p =
+    in-found (ticked now s) n k (agedRoom now r) (map (agedRoom now) q) (room-told now s n (r ∷ q) e)
+    ∙ aged-alone now r k (r .objects) (p r (found-in (isRoom n) (s .rooms) r q e))
+    ∙ ap (λ (os : List Object). versionsOf (find (isObject k) os)) (sym (agedObjects-like now r found found))
+    ∙ sym (in-found (ticked now (alone n k s)) n k (agedRoom now (roomAlone k r)) [] (room-told now (alone n k s) n (roomAlone k r ∷ []) (room-alone s n k r q e)))
+  where
+    found : List Object
+    found = find (isObject k) (r .objects)
+
+alone-untold : (s : State) (n k : Name) (rs : List Room) → find (isRoom n) (s .rooms) ≡ rs → versionsIn n k s ≡ versionsIn n k (alone n k s)
+unfolding find
+alone-untold s n k [] e = in-none s n k e ∙ sym (in-none (alone n k s) n k (rw e refl))
+alone-untold s n k (r ∷ q) e = in-found s n k r q e ∙ ap versionsOf (sym (find-again k (r .objects))) ∙ sym (in-found (alone n k s) n k (roomAlone k r) [] (room-alone s n k r q e))
+
+-- as keys rise in each room, rules do to each thing what they would do to it alone
+pub each-alone : (s : State) (t : ℕ) (n k : Name) → ((r : Room) → List·Memᴰ r (s .rooms) → Pairs Before (r .objects)) →
+  versionsIn n k (does (Tick t) s .state) ≡ versionsIn n k (does (Tick t) (alone n k s) .state)
+each-alone s t n k p =
+    (elim (tells-time t) as (λ b. tells-time t ≡ b → versionsIn n k (does (Tick t) s .state) ≡ versionsIn n k (does (Tick t) (alone n k s) .state))
+      [ true ↦ λ e. ap (versionsIn n k) (tick-told t s e) ∙ alone-told (later t (s .now)) s n k (find (isRoom n) (s .rooms)) refl p ∙ ap (versionsIn n k) (sym (tick-told t (alone n k s) e))
+      | false ↦ λ e. ap (versionsIn n k) (tick-refused t s e) ∙ alone-untold s n k (find (isRoom n) (s .rooms)) refl ∙ ap (versionsIn n k) (sym (tick-refused t (alone n k s) e)) ]) refl
