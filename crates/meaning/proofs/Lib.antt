@@ -1,3 +1,5 @@
 pub mod Names
-pub mod Finds
 pub mod Good
+pub mod Finds
+pub mod Objects
+pub mod Steps
