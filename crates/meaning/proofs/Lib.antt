@@ -1,6 +1,8 @@
 pub mod Names
 pub mod Good
+pub mod Finds
+pub mod Objects
+pub mod Steps
 pub mod Refusals
-pub mod Found
-pub mod Ruled
 pub mod Listed
+pub mod Ruled

@@ -2,7 +2,7 @@
 -- Assumes nothing.
 use mathlib.Core.Path.{_≡_, refl, sym, _∙_, ap, ap₂}
 use mathlib.Core.Bool.{Bool, true, false, cond, not, _&&_, _||_}
-use mathlib.Core.List.{List, [], _∷_, map, List·Memᴰ, List·Memᴰ·head, List·Memᴰ·tail}
+use mathlib.Core.List.{List, [], _∷_, map, List·Memᴰ, List·Memᴰ·head, List·Memᴰ·tail, List·Memᴰ·not-nil}
 use Prim.Native.Nat.{ℕ, _+_, _≤_, _<_}
 use native.Mathlib.Omega.{arith}
 use lib.Dec.{eqb, ltb, leb, T}
@@ -11,9 +11,9 @@ use Rattle.meaning.specs.Lists.{Name, find}
 use Rattle.meaning.specs.Rooms.{Body, Bytes, Removed, Version, Object, Rule, Room, State, Call, Tick, Out}
 use Rattle.meaning.specs.Does.{no, does, acts, isTick, isRoom, isObject, isHeld, isRemoved, due, ruleFor, oldKept, tidy, covered, aged, kept, agedObjects, agedRoom, later, ticked, small, withObjects, withRooms, versionsOf}
 use Rattle.meaning.specs.Laws.{versionsIn, alone}
-use Rattle.meaning.proofs.Names.{same-unlike, same-eq, less-unlike}
-use Rattle.meaning.proofs.Found.{nil-cons, find-none, found-in, found-passes, find-map}
 use Rattle.meaning.proofs.Good.{Pairs, Over, Before}
+use Rattle.meaning.proofs.Finds.{found, at-find, find-mapped}
+use Rattle.meaning.proofs.Objects.{found-aged}
 
 -- THE SAME TIME AGAIN
 
@@ -170,40 +170,6 @@ time-again s t p =
 abbrev roomAlone : Name → Room → Room
 roomAlone k r = withObjects (find (isObject k) (r .objects)) r
 
--- a key that isn't there doesn't come by a rule
-absent-aged : (now : ℕ) (r : Room) (k : Name) (os : List Object) → find (isObject k) os ≡ [] → find (isObject k) (agedObjects now r os) ≡ []
-unfolding find agedObjects kept
-absent-aged now r k [] e = refl
-absent-aged now r k (o ∷ os) e = go (aged now (r .keeps) (ruleFor (o .key) (r .rules)) (o .versions)) (isObject k o) refl e (absent-aged now r k os)
-  where
-    go : (vs : List Version) (b : Bool) → isObject k o ≡ b → cond b (o ∷ []) (find (isObject k) os) ≡ [] → (find (isObject k) os ≡ [] → find (isObject k) (agedObjects now r os) ≡ []) →
-      find (isObject k) (kept (o .key) vs (agedObjects now r os)) ≡ []
-    go vs true f e rest = absurd (nil-cons (sym e))
-    go [] false f e rest = rest e
-    go (v ∷ vs) false f e rest = rw f (rest e)
-
--- no key comes twice, so what follows it is other things
-only-once : (k : Name) (o : Object) (os : List Object) → Pairs Before (o ∷ os) → isObject k o ≡ true → find (isObject k) os ≡ []
-only-once k o os p e = find-none (isObject k) os (λ q m. same-unlike k (q .key) (λ f. less-unlike (o .key) (q .key) (p .0 q m) (sym (same-eq k (o .key) e) ∙ f)))
-
-aged-alone : (now : ℕ) (r : Room) (k : Name) (os : List Object) → Pairs Before os → versionsOf (find (isObject k) (agedObjects now r os)) ≡ versionsOf (find (isObject k) (agedObjects now r (find (isObject k) os)))
-unfolding find agedObjects kept
-aged-alone now r k [] p = refl
-aged-alone now r k (o ∷ os) p =
-    (elim (isObject k o)
-        as (λ b. isObject k o ≡ b → versionsOf (find (isObject k) (kept (o .key) left (agedObjects now r os))) ≡ versionsOf (find (isObject k) (agedObjects now r (cond b (o ∷ []) (find (isObject k) os)))))
-      [ true ↦ λ e. itself left e (absent-aged now r k os (only-once k o os p e))
-      | false ↦ λ e. other left e ∙ aged-alone now r k os (p .1) ]) refl
-  where
-    left : List Version
-    left = aged now (r .keeps) (ruleFor (o .key) (r .rules)) (o .versions)
-    itself : (vs : List Version) → isObject k o ≡ true → find (isObject k) (agedObjects now r os) ≡ [] → versionsOf (find (isObject k) (kept (o .key) vs (agedObjects now r os))) ≡ versionsOf (find (isObject k) (kept (o .key) vs []))
-    itself [] e f = ap versionsOf f
-    itself (v ∷ vs) e f = rw e refl
-    other : (vs : List Version) → isObject k o ≡ false → versionsOf (find (isObject k) (kept (o .key) vs (agedObjects now r os))) ≡ versionsOf (find (isObject k) (agedObjects now r os))
-    other [] e = refl
-    other (v ∷ vs) e = rw e refl
-
 -- a thing found among one is that one
 find-again : (k : Name) (os : List Object) → find (isObject k) (find (isObject k) os) ≡ find (isObject k) os
 unfolding find
@@ -213,10 +179,21 @@ find-again k (o ∷ os) =
       [ true ↦ λ e. rw e refl
       | false ↦ λ e. find-again k os ]) refl
 
+-- what rules leave under a key is what they leave of that alone
+aged-alone : (now : ℕ) (r : Room) (k : Name) → Pairs Before (r .objects) →
+  versionsOf (find (isObject k) (agedRoom now r .objects)) ≡ versionsOf (find (isObject k) (agedRoom now (roomAlone k r) .objects))
+aged-alone now r k p =
+    found-aged now r k (r .objects) p
+    ∙ ap (λ (os : List Object). aged now (r .keeps) (ruleFor k (r .rules)) (versionsOf os)) (sym (find-again k (r .objects)))
+    ∙ sym (found-aged now (roomAlone k r) k (find (isObject k) (r .objects)) one)
+  where
+    one : Pairs Before (find (isObject k) (r .objects))
+    one = at-find (isObject k) (Pairs Before) (r .objects) (λ _. tt) (λ o _. (λ q m. absurd (List·Memᴰ·not-nil m), tt))
+
 -- alone, the room is still the one of its name
 room-alone : (s : State) (n k : Name) (r : Room) (q : List Room) → find (isRoom n) (s .rooms) ≡ r ∷ q → find (isRoom n) (alone n k s .rooms) ≡ roomAlone k r ∷ []
 unfolding find
-room-alone s n k r q e = rw (e, found-passes (isRoom n) (s .rooms) r q e) refl
+room-alone s n k r q e = rw (e, found (isRoom n) (s .rooms) r q e .passes) refl
 
 -- what stands under a key: of the room of that name, if there is one
 in-found : (s : State) (n k : Name) (r : Room) (q : List Room) → find (isRoom n) (s .rooms) ≡ r ∷ q → versionsIn n k s ≡ versionsOf (find (isObject k) (r .objects))
@@ -226,7 +203,7 @@ in-none : (s : State) (n k : Name) → find (isRoom n) (s .rooms) ≡ [] → ver
 in-none s n k e = rw e refl
 
 room-told : (now : ℕ) (s : State) (n : Name) (rs : List Room) → find (isRoom n) (s .rooms) ≡ rs → find (isRoom n) (ticked now s .rooms) ≡ map (agedRoom now) rs
-room-told now s n rs e = find-map (isRoom n) (agedRoom now) (λ r. refl) (s .rooms) ∙ ap (map (agedRoom now)) e
+room-told now s n rs e = find-mapped (isRoom n) (agedRoom now) (λ r. refl) (s .rooms) ∙ ap (map (agedRoom now)) e
 
 -- told the time, and not told it, a thing is as it would be alone
 alone-told : (now : ℕ) (s : State) (n k : Name) (rs : List Room) → find (isRoom n) (s .rooms) ≡ rs → ((r : Room) → List·Memᴰ r (s .rooms) → Pairs Before (r .objects)) →
@@ -235,12 +212,8 @@ unfolding find
 alone-told now s n k [] e p = in-none (ticked now s) n k (room-told now s n [] e) ∙ sym (in-none (ticked now (alone n k s)) n k (room-told now (alone n k s) n [] (rw e refl)))
 alone-told now s n k (r ∷ q) e p =
     in-found (ticked now s) n k (agedRoom now r) (map (agedRoom now) q) (room-told now s n (r ∷ q) e)
-    ∙ aged-alone now r k (r .objects) (p r (found-in (isRoom n) (s .rooms) r q e))
-    ∙ ap (λ (os : List Object). versionsOf (find (isObject k) os)) (sym (agedObjects-like now r found found))
+    ∙ aged-alone now r k (p r (found (isRoom n) (s .rooms) r q e .there))
     ∙ sym (in-found (ticked now (alone n k s)) n k (agedRoom now (roomAlone k r)) [] (room-told now (alone n k s) n (roomAlone k r ∷ []) (room-alone s n k r q e)))
-  where
-    found : List Object
-    found = find (isObject k) (r .objects)
 
 alone-untold : (s : State) (n k : Name) (rs : List Room) → find (isRoom n) (s .rooms) ≡ rs → versionsIn n k s ≡ versionsIn n k (alone n k s)
 unfolding find
