@@ -6,3 +6,4 @@ pub mod Steps
 pub mod Refusals
 pub mod Listed
 pub mod Ruled
+pub mod Weighs
