@@ -8,9 +8,9 @@ use Prim.Native.Nat.{ℕ, suc, _<_, _≤_, _+_}
 use native.Mathlib.Omega.{arith}
 use lib.Dec.{T, eqb, ltb, leb}
 use lib.ListN.{length}
-use Rattle.std.proofs.shelf.Tests.{cond-both, or-parts, and-parts, not-true, not-false, ltb-true, ltb-false, leb-false, eqb-true, eqb-false, true≢false, false≢true}
+use Rattle.std.proofs.shelf.Tests.{cond-both, or-parts, and-parts, and-cases, both-ways, not-true, not-false, ltb-true, ltb-false, leb-false, eqb-true, eqb-false, true≢false, false≢true}
 use Rattle.meaning.specs.Lists.{Name, some, every, keep, find, change, none, less, begins, firstOf}
-use Rattle.meaning.specs.Rooms.{Body, Bytes, Removed, Version, Object, Part, Upload, Rule, Room, State, Expect, Any, Absent, Is, Call, MakeRoom, DropRoom, Put, Get, Remove, Look, Versions, Begin, PutPart, Complete, Abort, Hold, SetRules, Tick, Reply, No, Yes, Num, Got, List', Full, Out}
+use Rattle.meaning.specs.Rooms.{Body, Bytes, Removed, Version, Object, Part, Upload, Rule, Room, State, Expect, Any, Absent, Is, Call, MakeRoom, DropRoom, Put, Get, Remove, Look, Versions, Begin, PutPart, Complete, Abort, Hold, SetRules, Tick, Shown, Reply, No, Yes, Num, Got, List', Full, Out}
 use Rattle.meaning.specs.Does.{no, isRoom, withRooms, withObjects, withUploads, at', setObject, isRemoved, current, isHeld, onTop, bytes, nameOk, inRoomOr, puts, isNum, chosen, gets, removesOne, removesLatest, shownOf, allShown, isUpload, setPart, gapless, joined, partsPut, completes, unless-no, aborts, higher, holds, later, ticked, small, ruleOk, acts, isTick, does, meets}
 use Rattle.meaning.proofs.Names.{so, same-eq, same-refl}
 use Rattle.meaning.proofs.Finds.{Found, found, at-find, change-as, change-again}
@@ -65,9 +65,6 @@ pub data Step (s : State) : Call → Out → Type 0 where
   told : (t : ℕ) → T (small t) → Step s (Tick t) (record { reply = Yes; state = ticked (later t (s .now)) s })
   within : {c : Call} {reply : Reply} {next : ℕ} (n : Name) (r q : Room) → find (isRoom n) (s .rooms) ≡ r ∷ [] → s .next < 4611686018427387904 → Within s n r c reply next q → Step s c (record { reply = reply; state = record { now = s .now; next = next; rooms = change (isRoom n) (λ _. q) (s .rooms) } })
 
-apart : (r : Reply) → (f : Reply → ℕ) → f r ≡ 1 → ((k : ℕ) → f (Num k) ≡ 0) → Silent r
-apart r f p q k e = let z : _≡_ {A = ℕ} 0 1 = sym (q k) ∙ ap f (sym e) ∙ p in omega arith
-
 refused : {c : Call} (k : ℕ) (s : State) → Step s c (no k s)
 refused k s = stands (No k) (λ j e. let z : _≡_ {A = ℕ} 0 1 = cc in omega arith)
 
@@ -86,3 +83,137 @@ put-in : (n k : Name) (bs : List ℕ) (x : Expect) (r : Room) (s : State) (P : O
     P (puts n k bs x r s)
 put-in n k bs x r s P refuse write =
     cond-both (not (meets x (at' k r))) (no 4 s) _ P (λ _. refuse 4) (λ _. cond-both (leb 1024 (length (at' k r))) (no 8 s) _ P (λ _. refuse 8) (λ e. write (leb-false 1024 (length (at' k r)) e)))
+
+none-there : {A : Type 0} (xs : List A) → none xs ≡ true → xs ≡ []
+unfolding none
+none-there [] e = refl
+none-there (x ∷ xs) e = absurd (false≢true e)
+
+-- a test with three parts that all failed
+three : (a b c : Bool) → (a || b || c) ≡ false → (a ≡ false) × (b ≡ false) × (c ≡ false)
+three a b c e = let (p, q) = or-parts (a || b) c e in let (p₁, p₂) = or-parts a b p in (p₁, p₂, q)
+
+make-steps : (n : Name) (k : Bool) (s : State) → Step s (MakeRoom n k) (acts (MakeRoom n k) s)
+unfolding acts
+make-steps n k s =
+    cond-both (not (nameOk n)) _ _ (Step s (MakeRoom n k)) (λ _. refused 1 s) (λ ok. cond-both (some (isRoom n) (s .rooms)) _ _ (Step s (MakeRoom n k)) (λ _. refused 3 s) (λ new. cond-both (leb 256 (length (s .rooms))) _ _ (Step s (MakeRoom n k)) (λ _. refused 8 s)
+      (λ few. made n k (so (not-false (nameOk n) ok)) new (leb-false 256 (length (s .rooms)) few))))
+
+drop-steps : (n : Name) (s : State) → Step s (DropRoom n) (acts (DropRoom n) s)
+unfolding acts
+drop-steps n s = in-room n _ s (Step s (DropRoom n)) (refused 2 s) (λ r e. cond-both (none (r .objects) && none (r .uploads)) _ _ (Step s (DropRoom n)) (λ h. dropped n r e (none-there (r .objects) (and-parts (none (r .objects)) (none (r .uploads)) h .0))) (λ _. refused 5 s))
+
+tick-steps : (t : ℕ) (s : State) → Step s (Tick t) (acts (Tick t) s)
+unfolding acts
+tick-steps t s = cond-both (small t && ltb 0 t) _ _ (Step s (Tick t)) (λ h. told t (so (and-parts (small t) (ltb 0 t) h .0))) (λ _. refused 1 s)
+
+silent-got : (num size : ℕ) (bs : List ℕ) → Silent (Got num size bs)
+silent-got num size bs j e = let z : _≡_ {A = ℕ} 0 1 = cc in omega arith
+
+silent-list : (xs : List Shown) → Silent (List' xs)
+silent-list xs j e = let z : _≡_ {A = ℕ} 0 1 = cc in omega arith
+
+get-steps : (n k : Name) (num from most : ℕ) (s : State) → Step s (Get n k num from most) (acts (Get n k num from most) s)
+unfolding acts gets
+get-steps n k num from most s = cond-both (ltb 5242880 most) _ _ (Step s (Get n k num from most)) (λ _. refused 1 s) (λ _. in-room n _ s (Step s (Get n k num from most)) (refused 2 s) (λ r e. shows (chosen num (at' k r))))
+  where
+    shows : (vs : List Version) → Step s (Get n k num from most) (gets from most vs s)
+    shows [] = refused 2 s
+    shows (v ∷ vs) = stands _ (silent-got _ _ _)
+
+look-steps : (n p after : Name) (most : ℕ) (s : State) → Step s (Look n p after most) (acts (Look n p after most) s)
+unfolding acts
+look-steps n p after most s = cond-both (ltb 1000 most) _ _ (Step s (Look n p after most)) (λ _. refused 1 s) (λ _. in-room n _ s (Step s (Look n p after most)) (refused 2 s) (λ r e. stands _ (silent-list _)))
+
+versions-steps : (n k : Name) (s : State) → Step s (Versions n k) (acts (Versions n k) s)
+unfolding acts
+versions-steps n k s = in-room n _ s (Step s (Versions n k)) (refused 2 s) (λ r e. stands _ (silent-list _))
+
+-- the calls that write, while there are numbers left
+module _ (s : State) (left : s .next < 4611686018427387904) where
+  put-steps : (n k : Name) (bs : List ℕ) (x : Expect) → Step s (Put n k bs x) (acts (Put n k bs x) s)
+  unfolding acts
+  put-steps n k bs x =
+      cond-both (not (nameOk k) || ltb 5242880 (length bs) || not (bytes bs)) _ _ (Step s (Put n k bs x)) (λ _. refused 1 s) (λ ok. in-room n _ s (Step s (Put n k bs x)) (refused 2 s) (λ r e. put-in n k bs x r s (Step s (Put n k bs x)) (λ j. refused j s)
+        (λ few. let (a, b, c) = three (not (nameOk k)) (ltb 5242880 (length bs)) (not (bytes bs)) ok in
+          changes s n r _ e left (sets k (new (Bytes bs) (by-put bs x (so (not-false (nameOk k) a)) (ltb-false 5242880 (length bs) b) (so (not-false (bytes bs) c))) few)))))
+
+  remove-steps : (n k : Name) (num : ℕ) → Step s (Remove n k num) (acts (Remove n k num) s)
+  unfolding acts removesOne
+  remove-steps n k num = in-room n _ s (Step s (Remove n k num)) (refused 2 s) (λ r e. cond-both (eqb num 0) _ _ (Step s (Remove n k num)) (λ z. rw (eqb-true num 0 z) (latest r e)) (λ z. at-find (isNum num) (λ vs. Step s (Remove n k num) (removesOne n k vs r s)) (at' k r) (λ _. refused 2 s) (λ v d. one r e (eqb-false num 0 z) v d)))
+    where
+      one : (r : Room) → find (isRoom n) (s .rooms) ≡ r ∷ [] → (num ≡ 0 → ⊥) → (v : Version) → find (isNum num) (at' k r) ≡ v ∷ [] → Step s (Remove n k num) (removesOne n k (v ∷ []) r s)
+      one r e z v d = cond-both (isHeld (s .now) v) _ _ (Step s (Remove n k num)) (λ _. refused 6 s) (λ h. changes s n r _ e left (sets k (fewer num v z d h)))
+      latest : (r : Room) → find (isRoom n) (s .rooms) ≡ r ∷ [] → Step s (Remove n k 0) (removesLatest n k r s)
+      latest r e =
+          cond-both (none (current (at' k r))) _ _ (Step s (Remove n k 0)) (λ _. refused 2 s) (λ there. cond-both (leb 1024 (length (at' k r))) _ _ (Step s (Remove n k 0)) (λ _. refused 8 s) (λ few. cond-both (r .keeps || some (isHeld (s .now)) (at' k r)) _ _ (Step s (Remove n k 0))
+            (λ _. changes s n r _ e left (sets k (new Removed (by-remove there) (leb-false 1024 (length (at' k r)) few))))
+            (λ h. let (a, b) = or-parts (r .keeps) (some (isHeld (s .now)) (at' k r)) h in changes s n r _ e left (sets k (gone a b)))))
+
+  begin-steps : (n k : Name) → Step s (Begin n k) (acts (Begin n k) s)
+  unfolding acts
+  begin-steps n k =
+      cond-both (not (nameOk k)) _ _ (Step s (Begin n k)) (λ _. refused 1 s) (λ ok. in-room n _ s (Step s (Begin n k)) (refused 2 s) (λ r e. cond-both (leb 1024 (length (r .uploads))) _ _ (Step s (Begin n k)) (λ _. refused 8 s)
+        (λ few. changes s n r _ e left (begun k (so (not-false (nameOk k) ok)) (leb-false 1024 (length (r .uploads)) few)))))
+
+  part-steps : (n : Name) (u p : ℕ) (bs : List ℕ) → Step s (PutPart n u p bs) (acts (PutPart n u p bs) s)
+  unfolding acts partsPut
+  part-steps n u p bs =
+      cond-both (eqb p 0 || ltb 10000 p || ltb 5242880 (length bs) || not (bytes bs)) _ _ (Step s (PutPart n u p bs)) (λ _. refused 1 s) (λ ok. in-room n _ s (Step s (PutPart n u p bs)) (refused 2 s) (λ r e. at-find (isUpload u) (λ us. Step s (PutPart n u p bs) (partsPut n u p bs us s)) (r .uploads) (λ _. refused 2 s)
+        (λ y d. let (a, b, c) = three (eqb p 0 || ltb 10000 p) (ltb 5242880 (length bs)) (not (bytes bs)) ok in let (a₁, a₂) = or-parts (eqb p 0) (ltb 10000 p) a in let nz = eqb-false p 0 a₁ in
+          changes s n r (λ (r : Room). withUploads (change (isUpload u) (withPart p bs) (r .uploads)) r) e left (parted u p bs (omega arith) (ltb-false 10000 p a₂) (ltb-false 5242880 (length bs) b) (so (not-false (bytes bs) c))))))
+
+  abort-steps : (n : Name) (u : ℕ) → Step s (Abort n u) (acts (Abort n u) s)
+  unfolding acts aborts
+  abort-steps n u = in-room n _ s (Step s (Abort n u)) (refused 2 s) (λ r e. at-find (isUpload u) (λ us. Step s (Abort n u) (aborts n u us s)) (r .uploads) (λ _. refused 2 s) (λ y d. changes s n r (λ (r : Room). withUploads (others u (r .uploads)) r) e left (aborted u)))
+
+  rules-steps : (n : Name) (rs : List Rule) → Step s (SetRules n rs) (acts (SetRules n rs) s)
+  unfolding acts
+  rules-steps n rs =
+      cond-both (ltb 64 (length rs) || not (every ruleOk rs)) _ _ (Step s (SetRules n rs)) (λ _. refused 1 s) (λ ok. in-room n _ s (Step s (SetRules n rs)) (refused 2 s)
+        (λ r e. let (a, b) = or-parts (ltb 64 (length rs)) (not (every ruleOk rs)) ok in changes s n r (λ (y : Room). record { name = y .name; keeps = y .keeps; rules = rs; objects = y .objects; uploads = y .uploads }) e left (ruled rs (ltb-false 64 (length rs) a) (so (not-false (every ruleOk rs) b)))))
+
+  hold-steps : (n k : Name) (num until : ℕ) → Step s (Hold n k num until) (acts (Hold n k num until) s)
+  unfolding acts holds keep
+  hold-steps n k num until =
+      cond-both (not (small until)) _ _ (Step s (Hold n k num until)) (λ _. refused 1 s) (λ ok. in-room n _ s (Step s (Hold n k num until)) (refused 2 s) (λ r e. at-find (isNum num) (λ vs. Step s (Hold n k num until) (holds n k num until (keep (λ (v : Version). not (isRemoved (v .body))) vs) r s)) (at' k r) (λ _. refused 2 s)
+        (λ v d. cond-both (not (isRemoved (v .body))) (v ∷ []) [] (λ vs. Step s (Hold n k num until) (holds n k num until vs r s)) (λ h. changes s n r _ e left (sets k (longer num until v (so (not-false (small until) ok)) d (not-true (isRemoved (v .body)) h)))) (λ _. refused 2 s))))
+
+  complete-steps : (n : Name) (u : ℕ) (x : Expect) → Step s (Complete n u x) (acts (Complete n u x) s)
+  unfolding acts completes unless-no
+  complete-steps n u x = in-room n _ s (Step s (Complete n u x)) (refused 2 s) (λ r e. at-find (isUpload u) (λ us. Step s (Complete n u x) (unless-no n u (completes n u x us r s))) (r .uploads) (λ _. refused 2 s) (λ y d. whole r e y d))
+    where
+      After : Out → Type 0
+      After o = Step s (Complete n u x) (unless-no n u o)
+      whole : (r : Room) → find (isRoom n) (s .rooms) ≡ r ∷ [] → (y : Upload) → find (isUpload u) (r .uploads) ≡ y ∷ [] → After (completes n u x (y ∷ []) r s)
+      whole r e y d =
+          cond-both (none (y .parts) || not (gapless 1 (y .parts))) (no 7 s) _ After (λ _. refused 7 s) (λ _. put-in n (y .key) (joined (y .parts)) x r s After (λ j. refused j s)
+            (λ few. let q : Room = withObjects (setObject (y .key) (onTop (s .now) (r .keeps) (fresh s (Bytes (joined (y .parts)))) (at' (y .key) r)) (r .objects)) r in
+              rw (change-as (isRoom n) (withObjects (q .objects)) (s .rooms) r e, change-again (isRoom n) (λ (z : Room). withUploads (others u (z .uploads)) z) q (s .rooms) (found (isRoom n) (s .rooms) r [] e .passes))
+                (within n r _ e left (sets (y .key) (new (Bytes (joined (y .parts))) (by-complete u x y d refl) few)))))
+
+acts-steps : (c : Call) (s : State) → (isTick c ≡ false → s .next < 4611686018427387904) → Step s c (acts c s)
+unfolding isTick
+acts-steps (MakeRoom n k) s left = make-steps n k s
+acts-steps (DropRoom n) s left = drop-steps n s
+acts-steps (Put n k bs x) s left = put-steps s (left refl) n k bs x
+acts-steps (Get n k num from most) s left = get-steps n k num from most s
+acts-steps (Remove n k num) s left = remove-steps s (left refl) n k num
+acts-steps (Look n p after most) s left = look-steps n p after most s
+acts-steps (Versions n k) s left = versions-steps n k s
+acts-steps (Begin n k) s left = begin-steps s (left refl) n k
+acts-steps (PutPart n u p bs) s left = part-steps s (left refl) n u p bs
+acts-steps (Complete n u x) s left = complete-steps s (left refl) n u x
+acts-steps (Abort n u) s left = abort-steps s (left refl) n u
+acts-steps (Hold n k num until) s left = hold-steps s (left refl) n k num until
+acts-steps (SetRules n rs) s left = rules-steps s (left refl) n rs
+acts-steps (Tick t) s left = tick-steps t s
+
+-- every call comes to one of these
+pub steps : (c : Call) (s : State) → Step s c (does c s)
+steps c s =
+    cond-both (eqb (s .now) 0 && not (isTick c)) _ _ (Step s c) (λ _. refused 10 s) (λ _. cond-both (not (small (s .next)) && not (isTick c)) _ _ (Step s c) (λ _. refused 8 s)
+      (λ h. acts-steps c s (λ tick. ltb-true (s .next) 4611686018427387904 (still tick h))))
+  where
+    still : isTick c ≡ false → (not (small (s .next)) && not (isTick c)) ≡ false → small (s .next) ≡ true
+    still tick h = elim (and-cases (not (small (s .next))) (not (isTick c)) h) [ inl a ↦ not-false (small (s .next)) a | inr b ↦ absurd (both-ways (isTick c) tick (not-false (isTick c) b)) ]
