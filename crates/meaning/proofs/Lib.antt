@@ -3,3 +3,5 @@ pub mod Good
 pub mod Finds
 pub mod Objects
 pub mod Steps
+pub mod Heaps
+pub mod Uploads
