@@ -5,3 +5,4 @@ pub mod Objects
 pub mod Steps
 pub mod Heaps
 pub mod Uploads
+pub mod Moves
