@@ -37,6 +37,9 @@ module _ {A : Type 0} (f : A → Bool) where
       go true p below = rw p (one x (rw p refl))
       go false p below = rw p (below (λ e. none (rw p e)) (λ y e. one y (rw p e)))
 
+  pub found-or-none : (xs : List A) → (find f xs ≡ []) ⊎ ((x : A) × (find f xs ≡ x ∷ []))
+  found-or-none xs = at-find (λ ys. (ys ≡ []) ⊎ ((x : A) × (ys ≡ x ∷ []))) xs (λ _. inl refl) (λ x _. inr (x, refl))
+
   pub find-none : (xs : List A) → find f xs ≡ [] → (x : A) → List·Memᴰ x xs → f x ≡ false
   unfolding find
   find-none [] e x m = absurd (List·Memᴰ·not-nil m)

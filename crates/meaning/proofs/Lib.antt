@@ -1,9 +1,12 @@
+pub mod Refusals
+pub mod Listed
+pub mod Ruled
+pub mod Weighs
 pub mod Names
 pub mod Good
 pub mod Finds
 pub mod Objects
 pub mod Steps
-pub mod Refusals
-pub mod Listed
-pub mod Ruled
-pub mod Weighs
+pub mod Heaps
+pub mod Uploads
+pub mod Moves

@@ -1,32 +1,37 @@
 -- What is turned away changes nothing: no invariant is needed.
 -- Assumes nothing.
-use mathlib.Core.Path.{_≡_, refl}
+use mathlib.Core.Path.{_≡_, refl, sym, subst}
 use mathlib.Core.Bool.{Bool, true, false, cond, not, _&&_, _||_}
 use mathlib.Core.List.{List, [], _∷_}
 use Prim.Native.Nat.{ℕ}
+use native.Mathlib.Omega.{arith}
 use lib.Dec.{eqb, ltb, leb}
 use lib.ListN.{length}
 use Rattle.meaning.specs.Lists.{Name, some, every, find, none}
 use Rattle.meaning.specs.Rooms.{Version, Upload, Room, State, Expect, Call, MakeRoom, DropRoom, Put, Get, Remove, Look, Versions, Begin, PutPart, Complete, Abort, Hold, SetRules, Tick, Reply, No, Yes, Num, Got, List', Full, Out, Part, Shown}
 use Rattle.meaning.specs.Does.{no, at', isRoom, isHeld, meets, current, nameOk, bytes, gapless, ruleOk, small, inRoomOr, puts, gets, removesOne, removesLatest, partsPut, completes, unless-no, aborts, holds, acts, does, isTick}
-use Rattle.meaning.specs.Answers.{Answers, Refuses, says-so, not-yet, too-full}
+use Rattle.meaning.specs.Answers.{Answers, Refuses, full, says-so, not-yet, too-full}
 use Rattle.meaning.specs.Laws.{RefusalsChangeNothing}
 
--- if this is a refusal, the state is as it was
-abbrev pub Calm : State → Out → Type 0
-Calm s o = Refuses (o .reply) → o .state ≡ s
+-- a refusal by a number that leaves the state as it was, or no refusal
+data Calm (s : State) : Out → Type 0 where
+  refused : (k : ℕ) → Calm s (no k s)
+  granted : {r : Reply} (t : State) → (Refuses r → ⊥) → Calm s (record { reply = r; state = t })
 
 calm-no : (k : ℕ) (s : State) → Calm s (no k s)
-calm-no k s h = refl
+calm-no k s = refused k
 
 calm-yes : (s t : State) → Calm s (record { reply = Yes; state = t })
-calm-yes s t h = elim h [ ]
+calm-yes s t = granted t (λ h. elim h [ ])
 
 calm-num : (k : ℕ) (s t : State) → Calm s (record { reply = Num k; state = t })
-calm-num k s t h = elim h [ ]
+calm-num k s t = granted t (λ h. elim h [ ])
 
-calm-same : (r : Reply) (s : State) → Calm s (record { reply = r; state = s })
-calm-same r s h = refl
+calm-got : (num size : ℕ) (bs : List ℕ) (s : State) → Calm s (record { reply = Got num size bs; state = s })
+calm-got num size bs s = granted s (λ h. elim h [ ])
+
+calm-list : (xs : List Shown) (s : State) → Calm s (record { reply = List' xs; state = s })
+calm-list xs s = granted s (λ h. elim h [ ])
 
 calm-cond : {s : State} {x y : Out} (b : Bool) → Calm s x → Calm s y → Calm s (cond b x y)
 calm-cond true p q = p
@@ -43,7 +48,7 @@ calm-puts n k bs x r s = calm-cond (not (meets x (at' k r))) (calm-no 4 s) (calm
 calm-gets : (from most : ℕ) (vs : List Version) (s : State) → Calm s (gets from most vs s)
 unfolding gets
 calm-gets from most [] s = calm-no 2 s
-calm-gets from most (v ∷ vs) s = calm-same _ s
+calm-gets from most (v ∷ vs) s = calm-got _ _ _ s
 
 calm-removesOne : (n k : Name) (vs : List Version) (r : Room) (s : State) → Calm s (removesOne n k vs r s)
 unfolding removesOne
@@ -95,8 +100,8 @@ calm-acts (DropRoom n) s = calm-room (find (isRoom n) (s .rooms)) _ s (λ r. cal
 calm-acts (Put n k bs x) s = calm-cond (not (nameOk k) || ltb 5242880 (length bs) || not (bytes bs)) (calm-no 1 s) (calm-room (find (isRoom n) (s .rooms)) _ s (λ r. calm-puts n k bs x r s))
 calm-acts (Get n k num from most) s = calm-cond (ltb 5242880 most) (calm-no 1 s) (calm-room (find (isRoom n) (s .rooms)) _ s (λ r. calm-gets from most _ s))
 calm-acts (Remove n k num) s = calm-room (find (isRoom n) (s .rooms)) _ s (λ r. calm-cond (eqb num 0) (calm-removesLatest n k r s) (calm-removesOne n k _ r s))
-calm-acts (Look n p after most) s = calm-cond (ltb 1000 most) (calm-no 1 s) (calm-room (find (isRoom n) (s .rooms)) _ s (λ r. calm-same _ s))
-calm-acts (Versions n k) s = calm-room (find (isRoom n) (s .rooms)) _ s (λ r. calm-same _ s)
+calm-acts (Look n p after most) s = calm-cond (ltb 1000 most) (calm-no 1 s) (calm-room (find (isRoom n) (s .rooms)) _ s (λ r. calm-list _ s))
+calm-acts (Versions n k) s = calm-room (find (isRoom n) (s .rooms)) _ s (λ r. calm-list _ s)
 calm-acts (Begin n k) s = calm-cond (not (nameOk k)) (calm-no 1 s) (calm-room (find (isRoom n) (s .rooms)) _ s (λ r. calm-cond (leb 1024 (length (r .uploads))) (calm-no 8 s) (calm-num (s .next) s _)))
 calm-acts (PutPart n u p bs) s = calm-cond (eqb p 0 || ltb 10000 p || ltb 5242880 (length bs) || not (bytes bs)) (calm-no 1 s) (calm-room (find (isRoom n) (s .rooms)) _ s (λ r. calm-partsPut n u p bs _ s))
 calm-acts (Complete n u x) s = calm-room (find (isRoom n) (s .rooms)) _ s (λ r. calm-unless-no n u _ s (calm-completes n u x _ r s))
@@ -105,10 +110,22 @@ calm-acts (Hold n k num until) s = calm-cond (not (small until)) (calm-no 1 s) (
 calm-acts (SetRules n rs) s = calm-cond (ltb 64 (length rs) || not (every ruleOk rs)) (calm-no 1 s) (calm-room (find (isRoom n) (s .rooms)) _ s (λ r. calm-yes s _))
 calm-acts (Tick t) s = calm-cond (small t && ltb 0 t) (calm-yes s _) (calm-no 1 s)
 
-pub calm-does : (c : Call) (s : State) → Calm s (does c s)
+calm-does : (c : Call) (s : State) → Calm s (does c s)
 calm-does c s = calm-cond (eqb (s .now) 0 && not (isTick c)) (calm-no 10 s) (calm-cond (not (small (s .next)) && not (isTick c)) (calm-no 8 s) (calm-acts c s))
 
+calm-state : {s : State} {o : Out} → Calm s o → Refuses (o .reply) → o .state ≡ s
+calm-state (refused k) h = refl
+calm-state (granted t n) h = absurd (n h)
+
+calm-not-full : {s : State} {o : Out} → Calm s o → o .reply ≡ Full → ⊥
+calm-not-full (refused k) e = let z : _≡_ {A = ℕ} 0 1 = cc in omega arith
+calm-not-full (granted t n) e = n (subst Refuses (sym e) full)
+
+-- full isn't for the meaning to say, but for the house that has no more room
+pub never-full : (c : Call) (s : State) → does c s .reply ≡ Full → ⊥
+never-full c s = calm-not-full (calm-does c s)
+
 pub refusals-change-nothing : RefusalsChangeNothing
-refusals-change-nothing can size c s t r (says-so d u built) h = calm-does d u h
+refusals-change-nothing can size c s t r (says-so d u built) h = calm-state (calm-does d u) h
 refusals-change-nothing can size c s t r (not-yet d u unbuilt) h = refl
 refusals-change-nothing can size c s t r (too-full d u built more over) h = refl

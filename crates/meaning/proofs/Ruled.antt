@@ -8,10 +8,10 @@ use native.Mathlib.Omega.{arith}
 use lib.Dec.{eqb, ltb, leb, T}
 use Rattle.std.proofs.shelf.Ways.{tells}
 use Rattle.meaning.specs.Lists.{Name, find}
-use Rattle.meaning.specs.Rooms.{Body, Bytes, Removed, Version, Object, Rule, Room, State, Call, Tick, Out}
+use Rattle.meaning.specs.Rooms.{Body, Bytes, Removed, Version, Object, Rule, Room, State, blank, Call, Tick, Out}
 use Rattle.meaning.specs.Does.{no, does, acts, isTick, isRoom, isObject, isHeld, isRemoved, due, ruleFor, oldKept, tidy, covered, aged, kept, agedObjects, agedRoom, later, ticked, small, withObjects, withRooms, versionsOf}
-use Rattle.meaning.specs.Laws.{versionsIn, alone}
-use Rattle.meaning.proofs.Good.{Pairs, Over, Before}
+use Rattle.meaning.specs.Laws.{Run, versionsIn, alone, RulesAlone, SameTimeAgain}
+use Rattle.meaning.proofs.Good.{Pairs, Over, Before, Good}
 use Rattle.meaning.proofs.Finds.{found, at-find, find-mapped}
 use Rattle.meaning.proofs.Objects.{found-aged}
 
@@ -227,3 +227,11 @@ each-alone s t n k p =
     (elim (tells-time t) as (λ b. tells-time t ≡ b → versionsIn n k (does (Tick t) s .state) ≡ versionsIn n k (does (Tick t) (alone n k s) .state))
       [ true ↦ λ e. ap (versionsIn n k) (tick-told t s e) ∙ alone-told (later t (s .now)) s n k (find (isRoom n) (s .rooms)) refl p ∙ ap (versionsIn n k) (sym (tick-told t (alone n k s) e))
       | false ↦ λ e. ap (versionsIn n k) (tick-refused t s e) ∙ alone-untold s n k (find (isRoom n) (s .rooms)) refl ∙ ap (versionsIn n k) (sym (tick-refused t (alone n k s) e)) ]) refl
+
+-- THE LAWS
+
+pub same-time-again : ((s : State) → Run blank s → Good s) → SameTimeAgain
+same-time-again good s t run = time-again s t (λ r m. good s run .rooms-good r m .stacked)
+
+pub rules-alone : ((s : State) → Run blank s → Good s) → RulesAlone
+rules-alone good s t run n k = each-alone s t n k (λ r m. good s run .rooms-good r m .keys-rise)

@@ -11,13 +11,15 @@ use lib.ListN.{length, length-append}
 use Rattle.std.proofs.shelf.Tests.{eqb-true, eqb-false, and-parts, not-true, cond-both, true≢false}
 use Rattle.std.proofs.shelf.Ways.{tells}
 use Rattle.meaning.specs.Lists.{Name, keep, find, change, none, less}
-use Rattle.meaning.specs.Rooms.{Body, Bytes, Removed, Version, Object, Part, Upload, Rule, Room, State, Expect, Call, Complete, Reply, Out}
+use Rattle.meaning.specs.Rooms.{Body, Bytes, Removed, Version, Object, Part, Upload, Rule, Room, State, blank, Expect, Call, Complete, Reply, No, Full, Out}
 use Rattle.meaning.specs.Does.{no, does, acts, isTick, small, inRoomOr, completes, unless-no, isRoom, isUpload, onTop, later, isObject, isHeld, isNum, isRemoved, bytesOf, numOf, versionsOf, at', setObject, joined, due, ruleFor, oldKept, tidy, covered, aged, kept, agedObjects, agedRoom}
 use Rattle.meaning.specs.Weights.{lessBy, blocks, bodyWeight, versionsWeight, objectsWeight, partsWeight, uploadsWeight, roomsWeight, weight}
-use Rattle.meaning.proofs.Good.{Pairs, Before}
+use Rattle.meaning.proofs.Good.{Pairs, Before, Good}
 use Rattle.meaning.proofs.Finds.{found, at-find}
 use Rattle.meaning.proofs.Objects.{none-after}
-use Rattle.meaning.specs.Laws.{Grows, making, putting, beginning, putting-a-part, removing-the-latest}
+use Rattle.meaning.proofs.Refusals.{never-full}
+use Rattle.meaning.specs.Answers.{Answers, says-so, not-yet, too-full}
+use Rattle.meaning.specs.Laws.{Run, WeightGrows, FullOnly, Grows, making, putting, beginning, putting-a-part, removing-the-latest}
 use Rattle.meaning.proofs.Steps.{fresh, holdTo, others, without, Writes, by-put, by-remove, by-complete, Sets, new, gone, fewer, longer, Within, sets, begun, parted, aborted, ruled, Step, stands, made, dropped, told, within, steps}
 
 -- the mark that a rule puts on top
@@ -374,5 +376,18 @@ step-grows {s = s} {c = c} (within n r q d left w) e p l =
         go true h = absurd (omega (arith, ap weight (ap (λ (o : Out). o .state) e ∙ ap (λ (c : Call). does c s .state) f ∙ empty-refused s n r u x y d i h)))
         go false h = h
 
-pub weight-grows : (s : State) (c : Call) → ((r : Room) → List·Memᴰ r (s .rooms) → Sound r) → weight s < weight (does c s .state) → Grows c
-weight-grows s c p l = step-grows (steps c s) refl p l
+-- THE LAWS
+
+sound : (s : State) → Good s → (r : Room) → List·Memᴰ r (s .rooms) → Sound r
+sound s g r m = record { keys-rise = g .rooms-good r m .keys-rise; numbered = λ o i v j. g .fits .rooms-fit r m .objects-fit o i .each-fits v j .numbered }
+
+pub weight-grows : ((s : State) → Run blank s → Good s) → WeightGrows
+weight-grows good s c run l = step-grows (steps c s) refl (sound s (good s run)) l
+
+full-grows : ((s : State) → Run blank s → Good s) → (can : Call → Bool) (size : ℕ) {c : Call} {s t : State} {r : Reply} → Answers can size c s r t → Run blank s → r ≡ Full → Grows c
+full-grows good can size (says-so c s built) run e = absurd (never-full c s e)
+full-grows good can size (not-yet c s unbuilt) run e = absurd (let z : _≡_ {A = ℕ} 0 1 = cc in omega arith)
+full-grows good can size (too-full c s built more over) run e = weight-grows good s c run more
+
+pub full-only : ((s : State) → Run blank s → Good s) → FullOnly
+full-only good can size s t c r run a e = full-grows good can size a run e

@@ -1,0 +1,135 @@
+-- How the versions of a key may move by a call: at most at one key of one room they are set, or rules age them, or they stay.
+-- Assumes nothing.
+use mathlib.Core.Path.{_≡_, refl, sym, _∙_, ap, subst}
+use mathlib.Core.Bool.{Bool, true, false, cond, _&&_, _||_, not}
+use mathlib.Core.List.{List, [], _∷_, _++_, map, List·Memᴰ, List·Memᴰ·head, List·Memᴰ·tail, List·Memᴰ·cases-cons, List·Memᴰ·not-nil}
+use mathlib.Core.Logic.{_⊎_, inl, inr}
+use Prim.Native.Nat.{ℕ, suc, _<_, _≤_, _+_}
+use native.Mathlib.Omega.{arith}
+use lib.ListN.{length}
+use Rattle.std.proofs.shelf.Tests.{cond-both, both-ways, not-true, not-from-false}
+use Rattle.meaning.specs.Lists.{Name, keep, find, change, same}
+use Rattle.meaning.specs.Rooms.{Body, Version, Object, Upload, Rule, Room, State, Call, Tick, Reply, Out}
+use Rattle.meaning.specs.Does.{isRoom, isObject, isNum, isHeld, versionsOf, at', setObject, withObjects, withUploads, onTop, oldKept, tidy, covered, aged, ruleFor, agedRoom, agedObjects, later, ticked}
+use Rattle.meaning.specs.Laws.{versionsIn}
+use Rattle.meaning.proofs.Good.{Pairs, Before, RoomGood, Good}
+use Rattle.meaning.proofs.Names.{same-eq, same-from, same-refl, same-unlike, same-not}
+use Rattle.meaning.proofs.Finds.{Found, found, found-or-none, kept-was, changed-was, find-changed, find-unchanged, find-kept, find-nothing, find-pushed, find-mapped}
+use Rattle.meaning.proofs.Objects.{found-set, found-elsewhere, found-aged, aged-none}
+use Rattle.meaning.proofs.Steps.{Silent, fresh, holdTo, Writes, Sets, Within, Step, stands, made, dropped, told, within, sets, begun, parted, aborted, ruled, emptyRoom, without}
+use Rattle.meaning.proofs.Heaps.{mark, old-was, tidy-cases, higher-left}
+
+-- room and key: the one place where versions may be set
+pub data Moves (s : State) (room key : Name) (n k : Name) : Call → List Version → Type 0 where
+  stay : {c : Call} → Moves s room key n k c (versionsIn n k s)
+  set : {c : Call} {reply : Reply} {next : ℕ} {us : List Upload} {vs : List Version} (r : Room) → n ≡ room → k ≡ key → find (isRoom n) (s .rooms) ≡ r ∷ [] → Sets s n r k c reply next us vs → Moves s room key n k c vs
+  ages : (t : ℕ) (r : Room) → find (isRoom n) (s .rooms) ≡ r ∷ [] → Moves s room key n k (Tick t) (aged (later t (s .now)) (r .keeps) (ruleFor k (r .rules)) (at' k r))
+
+pub record Spot (s : State) (c : Call) (o : Out) : Type 0 where
+  pub room : Name
+  pub key : Name
+  pub moves : (n k : Name) → Moves s room key n k c (versionsIn n k (o .state))
+
+pub versions-found : (n k : Name) (s : State) (r : Room) → find (isRoom n) (s .rooms) ≡ r ∷ [] → versionsIn n k s ≡ at' k r
+versions-found n k s r e = rw e refl
+
+versions-none : (n k : Name) (s : State) → find (isRoom n) (s .rooms) ≡ [] → versionsIn n k s ≡ []
+versions-none n k s e = rw e refl
+
+versions-same : (n k : Name) (s t : State) → find (isRoom n) (t .rooms) ≡ find (isRoom n) (s .rooms) → versionsIn n k t ≡ versionsIn n k s
+versions-same n k s t e = rw e refl
+
+unmoved : {s : State} {room key n k : Name} {c : Call} {vs : List Version} → vs ≡ versionsIn n k s → Moves s room key n k c vs
+unmoved {s} {room} {key} {n} {k} {c} e = subst (Moves s room key n k c) (sym e) stay
+
+nowhere : {s : State} {c : Call} {o : Out} → ((n k : Name) → versionsIn n k (o .state) ≡ versionsIn n k s) → Spot s c o
+nowhere h = record { room = []; key = []; moves = λ n k. unmoved (h n k) }
+
+made-moves : (s : State) (n : Name) (keeps : Bool) (m l : Name) → versionsIn m l (record { now = s .now; next = s .next; rooms = s .rooms ++ (emptyRoom n keeps ∷ []) }) ≡ versionsIn m l s
+unfolding find versionsOf
+made-moves s n keeps m l = go (find-pushed (isRoom m) (emptyRoom n keeps) (s .rooms))
+  where
+    t : State
+    t = record { now = s .now; next = s .next; rooms = s .rooms ++ (emptyRoom n keeps ∷ []) }
+    go : (find (isRoom m) (t .rooms) ≡ find (isRoom m) (s .rooms)) ⊎ ((find (isRoom m) (s .rooms) ≡ []) × (isRoom m (emptyRoom n keeps) ≡ true) × (find (isRoom m) (t .rooms) ≡ emptyRoom n keeps ∷ [])) → versionsIn m l t ≡ versionsIn m l s
+    go (inl e) = versions-same m l s t e
+    go (inr h) = versions-found m l t (emptyRoom n keeps) (h .2) ∙ sym (versions-none m l s (h .0))
+
+dropped-moves : (s : State) (n : Name) (r : Room) → find (isRoom n) (s .rooms) ≡ r ∷ [] → r .objects ≡ [] → (m l : Name) → versionsIn m l (record { now = s .now; next = s .next; rooms = without n (s .rooms) }) ≡ versionsIn m l s
+unfolding find versionsOf
+dropped-moves s n r e none m l = go (same m n) refl
+  where
+    t : State
+    t = record { now = s .now; next = s .next; rooms = without n (s .rooms) }
+    other : Room → Bool
+    other x = not (isRoom n x)
+    empty : at' l r ≡ []
+    empty = rw none refl
+    gone : m ≡ n → find (isRoom m) (t .rooms) ≡ []
+    gone d = find-nothing (isRoom m) (t .rooms) (λ x i. rw d (not-true (isRoom n x) (kept-was other (s .rooms) x i .passes)))
+    go : (b : Bool) → same m n ≡ b → versionsIn m l t ≡ versionsIn m l s
+    go true d = versions-none m l t (gone (same-eq m n d)) ∙ sym empty ∙ sym (versions-found m l s r (rw (same-eq m n d) e))
+    go false d = versions-same m l s t (find-kept other (isRoom m) (λ x i. not-from-false (isRoom n x) (same-unlike n (x .name) (λ y. same-not m n d (same-eq m (x .name) i ∙ sym y)))) (s .rooms))
+
+told-moves : (s : State) (t : ℕ) → Good s → (n k : Name) → Moves s [] [] n k (Tick t) (versionsIn n k (ticked (later t (s .now)) s))
+told-moves s t g n k = go (found-or-none (isRoom n) (s .rooms))
+  where
+    now : ℕ
+    now = later t (s .now)
+    mapped : find (isRoom n) (ticked now s .rooms) ≡ map (agedRoom now) (find (isRoom n) (s .rooms))
+    mapped = find-mapped (isRoom n) (agedRoom now) (λ _. refl) (s .rooms)
+    left : (r : Room) → find (isRoom n) (s .rooms) ≡ r ∷ [] → versionsIn n k (ticked now s) ≡ aged now (r .keeps) (ruleFor k (r .rules)) (at' k r)
+    left r e = versions-found n k (ticked now s) (agedRoom now r) (mapped ∙ ap (map (agedRoom now)) e) ∙ found-aged now r k (r .objects) (g .rooms-good r (found (isRoom n) (s .rooms) r [] e .there) .keys-rise)
+    go : (find (isRoom n) (s .rooms) ≡ []) ⊎ ((r : Room) × (find (isRoom n) (s .rooms) ≡ r ∷ [])) → Moves s [] [] n k (Tick t) (versionsIn n k (ticked now s))
+    go (inl e) = unmoved (versions-none n k (ticked now s) (mapped ∙ ap (map (agedRoom now)) e) ∙ sym (versions-none n k s e))
+    go (inr h) = rw (left (h .0) (h .1)) (ages t (h .0) (h .1))
+
+-- a room in the place of the one of its name
+replaced : State → ℕ → Name → Room → State
+replaced s next n q = record { now = s .now; next = next; rooms = change (isRoom n) (λ _. q) (s .rooms) }
+
+module _ (s : State) (n : Name) (r q : Room) (e : find (isRoom n) (s .rooms) ≡ r ∷ []) (named : q .name ≡ r .name) (next : ℕ) where
+  is-there : isRoom n q ≡ true
+  is-there = rw named (found (isRoom n) (s .rooms) r [] e .passes)
+
+  replaced-here : (k : Name) → versionsIn n k (replaced s next n q) ≡ at' k q
+  unfolding replaced
+  replaced-here k = versions-found n k (replaced s next n q) q (find-changed (isRoom n) q (s .rooms) r e is-there)
+
+  replaced-elsewhere : (m k : Name) → (m ≡ n → ⊥) → versionsIn m k (replaced s next n q) ≡ versionsIn m k s
+  unfolding replaced
+  replaced-elsewhere m k d = versions-same m k s (replaced s next n q) (find-unchanged (isRoom n) (isRoom m) q (λ z i. same-unlike m (z .name) (λ x. d (x ∙ sym (same-eq n (z .name) i)))) (same-unlike m (q .name) (λ x. d (x ∙ sym (same-eq n (q .name) is-there)))) (s .rooms))
+
+  -- where the objects stay, nothing moves
+  replaced-same : q .objects ≡ r .objects → (m k : Name) → versionsIn m k (replaced s next n q) ≡ versionsIn m k s
+  replaced-same o m k = go (same m n) refl
+    where
+      go : (b : Bool) → same m n ≡ b → versionsIn m k (replaced s next n q) ≡ versionsIn m k s
+      go true d = rw (same-eq m n d) (replaced-here k ∙ ap (λ os. versionsOf (find (isObject k) os)) o ∙ sym (versions-found n k s r e))
+      go false d = replaced-elsewhere m k (same-not m n d)
+
+set-moves : {c : Call} {reply : Reply} {next : ℕ} {us : List Upload} {vs : List Version} (s : State) (n : Name) (r : Room) (k : Name) → Pairs Before (r .objects) → find (isRoom n) (s .rooms) ≡ r ∷ [] → Sets s n r k c reply next us vs →
+    (m l : Name) → Moves s n k m l c (versionsIn m l (replaced s next n (withUploads us (withObjects (setObject k vs (r .objects)) r))))
+set-moves {c} {next} {us} {vs} s n r k rise e h m l = go (same m n) (same l k) refl refl
+  where
+    q : Room
+    q = withUploads us (withObjects (setObject k vs (r .objects)) r)
+    go : (a b : Bool) → same m n ≡ a → same l k ≡ b → Moves s n k m l c (versionsIn m l (replaced s next n q))
+    go true true i j = rw (same-eq m n i, same-eq l k j, replaced-here s n r q e refl next k, found-set k vs (r .objects) rise) (set r refl refl e h)
+    go true false i j = unmoved (rw (same-eq m n i) (replaced-here s n r q e refl next l ∙ ap versionsOf (found-elsewhere k l vs (r .objects) (same-not l k j)) ∙ sym (versions-found n l s r e)))
+    go false b i j = unmoved (replaced-elsewhere s n r q e refl next m l (same-not m n i))
+
+within-moves : (s : State) (n : Name) (r : Room) {c : Call} {reply : Reply} {next : ℕ} (q : Room) → Good s → find (isRoom n) (s .rooms) ≡ r ∷ [] → Within s n r c reply next q → Spot s c (record { reply = reply; state = replaced s next n q })
+within-moves s n r q g e (sets k h) = record { room = n; key = k; moves = set-moves s n r k (g .rooms-good r (found (isRoom n) (s .rooms) r [] e .there) .keys-rise) e h }
+within-moves s n r q g e (begun k ok few) = nowhere (replaced-same s n r _ e refl _ refl)
+within-moves s n r q g e (parted u p bs a b l ok) = nowhere (replaced-same s n r _ e refl _ refl)
+within-moves s n r q g e (aborted u) = nowhere (replaced-same s n r _ e refl _ refl)
+within-moves s n r q g e (ruled rs few ok) = nowhere (replaced-same s n r _ e refl _ refl)
+
+pub moves : (s : State) {c : Call} {o : Out} → Good s → Step s c o → Spot s c o
+unfolding replaced
+moves s g (stands reply h) = nowhere (λ n k. refl)
+moves s g (made n keeps ok new few) = nowhere (made-moves s n keeps)
+moves s g (dropped n r e none) = nowhere (dropped-moves s n r e none)
+moves s g (told t h) = record { room = []; key = []; moves = told-moves s t g }
+moves s g (within n r q e left h) = within-moves s n r q g e h
