@@ -6,3 +6,4 @@ pub mod Steps
 pub mod Heaps
 pub mod Uploads
 pub mod Moves
+pub mod Bounds
