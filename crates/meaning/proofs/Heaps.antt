@@ -206,3 +206,33 @@ heap-aged {now} {next} keeps (x ∷ xs) (v ∷ vs) p h =
     takes : (k : Bool) → Heap now next k (v ∷ vs) → isRemoved (v .body) ≡ false → Heap now next k (cond k (mark now ∷ v ∷ old) (covered now old))
     takes true h e = heap-marked (v ∷ old) p (omega (arith, below-mark v vs e h, old-length now (x .oldLasts) (v .at) vs)) (λ w m d. absurd (true≢false d)) (heap-older (x .oldLasts) v vs h)
     takes false h e = let l : length old ≤ 1024 = omega (arith, h .few, old-length now (x .oldLasts) (v .at) vs) in hides old l (λ w m. h .stacked .0 w (old-was now (x .oldLasts) (v .at) vs w m) .was-held refl) (heap-tail v old l (heap-older (x .oldLasts) v vs h))
+
+-- what rules leave was there, or is their mark
+pub aged-was-or-mark : (now : ℕ) (keeps : Bool) (xs : List Rule) (vs : List Version) (w : Version) → List·Memᴰ w (aged now keeps xs vs) → List·Memᴰ w vs ⊎ (w .num ≡ 0)
+unfolding aged covered
+aged-was-or-mark now keeps [] vs w m = inl m
+aged-was-or-mark now keeps (x ∷ xs) [] w m = inl m
+aged-was-or-mark now keeps (x ∷ xs) (v ∷ vs) w m = untidied (tidy-cases untidy)
+  where
+    old : List Version
+    old = oldKept now (x .oldLasts) (v .at) vs
+    untidy : List Version
+    untidy = cond (due now (x .lasts) (v .at) && not (isRemoved (v .body)) && not (isHeld now v)) (cond keeps (mark now ∷ v ∷ old) (covered now old)) (v ∷ old)
+    Was : Type 0
+    Was = List·Memᴰ w (v ∷ vs) ⊎ (w .num ≡ 0)
+    older : List·Memᴰ w old → Was
+    older m = inl (List·Memᴰ·tail (old-was now (x .oldLasts) (v .at) vs w m))
+    latest : (w ≡ v) ⊎ List·Memᴰ w old → Was
+    latest (inl e) = inl (List·Memᴰ·head e)
+    latest (inr m) = older m
+    under-mark : (ws : List Version) → (List·Memᴰ w ws → Was) → (w ≡ mark now) ⊎ List·Memᴰ w ws → Was
+    under-mark ws below (inl e) = inr (rw e refl)
+    under-mark ws below (inr m) = below m
+    hidden : (ws : List Version) → (List·Memᴰ w ws → Was) → List·Memᴰ w (covered now ws) → Was
+    hidden [] below m = absurd (List·Memᴰ·not-nil m)
+    hidden (u ∷ ws) below m = under-mark (u ∷ ws) below (List·Memᴰ·cases-cons m)
+    whole : List·Memᴰ w untidy → Was
+    whole = cond-both (due now (x .lasts) (v .at) && not (isRemoved (v .body)) && not (isHeld now v)) (cond keeps (mark now ∷ v ∷ old) (covered now old)) (v ∷ old) (λ ws. List·Memᴰ w ws → Was) (λ _. cond-both keeps (mark now ∷ v ∷ old) (covered now old) (λ ws. List·Memᴰ w ws → Was) (λ _ m. under-mark (v ∷ old) (λ m′. latest (List·Memᴰ·cases-cons m′)) (List·Memᴰ·cases-cons m)) (λ _ m. hidden old older m)) (λ _ m. latest (List·Memᴰ·cases-cons m))
+    untidied : (tidy untidy ≡ []) ⊎ (tidy untidy ≡ untidy) → Was
+    untidied (inl e) = absurd (List·Memᴰ·not-nil (subst (List·Memᴰ w) e m))
+    untidied (inr e) = whole (subst (List·Memᴰ w) e m)

@@ -10,3 +10,4 @@ pub mod Steps
 pub mod Heaps
 pub mod Uploads
 pub mod Moves
+pub mod Bounds

@@ -16,8 +16,8 @@ use Rattle.meaning.proofs.Good.{Pairs, Before, RoomGood, Good}
 use Rattle.meaning.proofs.Names.{same-eq, same-from, same-refl, same-unlike, same-not}
 use Rattle.meaning.proofs.Finds.{Found, found, found-or-none, kept-was, changed-was, find-changed, find-unchanged, find-kept, find-nothing, find-pushed, find-mapped}
 use Rattle.meaning.proofs.Objects.{found-set, found-elsewhere, found-aged, aged-none}
-use Rattle.meaning.proofs.Steps.{Silent, fresh, holdTo, Writes, Sets, Within, Step, stands, made, dropped, told, within, sets, begun, parted, aborted, ruled, emptyRoom, without}
-use Rattle.meaning.proofs.Heaps.{mark, old-was, tidy-cases, higher-left}
+use Rattle.meaning.proofs.Steps.{Silent, fresh, holdTo, Writes, Sets, new, gone, fewer, longer, Within, Step, stands, made, dropped, told, within, sets, begun, parted, aborted, ruled, emptyRoom, without}
+use Rattle.meaning.proofs.Heaps.{aged-was-or-mark, higher-left}
 
 -- room and key: the one place where versions may be set
 pub data Moves (s : State) (room key : Name) (n k : Name) : Call → List Version → Type 0 where
@@ -129,7 +129,52 @@ within-moves s n r q g e (ruled rs few ok) = nowhere (replaced-same s n r _ e re
 pub moves : (s : State) {c : Call} {o : Out} → Good s → Step s c o → Spot s c o
 unfolding replaced
 moves s g (stands reply h) = nowhere (λ n k. refl)
-moves s g (made n keeps ok new few) = nowhere (made-moves s n keeps)
+moves s g (made n keeps ok free few) = nowhere (made-moves s n keeps)
 moves s g (dropped n r e none) = nowhere (dropped-moves s n r e none)
 moves s g (told t h) = record { room = []; key = []; moves = told-moves s t g }
 moves s g (within n r q e left h) = within-moves s n r q g e h
+
+-- WHERE A VERSION COMES FROM
+
+-- w is v still, with at least its hold
+pub record Like (v w : Version) : Type 0 where
+  pub num : w .num ≡ v .num
+  pub body : w .body ≡ v .body
+  pub at : w .at ≡ v .at
+  pub held : v .held ≤ w .held
+
+pub like-itself : (v : Version) → Like v v
+like-itself v = record { num = refl; body = refl; at = refl; held = omega arith }
+
+pub data Origin (s : State) (room key n k : Name) (w : Version) : Type 0 where
+  was : (v : Version) → List·Memᴰ v (versionsIn n k s) → Like v w → Origin s room key n k w
+  came : n ≡ room → k ≡ key → w .num ≡ s .next → Origin s room key n k w
+  marks : w .num ≡ 0 → Origin s room key n k w
+
+-- what stays below a new latest version was there
+pub below-was : (now : ℕ) (keeps : Bool) (vs : List Version) (w : Version) → List·Memᴰ w (cond keeps vs (keep (isHeld now) vs)) → List·Memᴰ w vs
+below-was now true vs w m = m
+below-was now false vs w m = kept-was (isHeld now) vs w m .there
+
+pub origin : (s : State) (room key n k : Name) {c : Call} {vs : List Version} → Moves s room key n k c vs → (w : Version) → List·Memᴰ w vs → Origin s room key n k w
+origin s room key n k stay w m = was w m (like-itself w)
+origin s room key n k (set r i j e h) w m = go h m
+  where
+    there : (v : Version) → List·Memᴰ v (at' k r) → Like v w → Origin s room key n k w
+    there v m l = was v (rw (versions-found n k s r e) m) l
+    top : (b : Body) → (w ≡ fresh s b) ⊎ List·Memᴰ w (cond (r .keeps) (at' k r) (keep (isHeld (s .now)) (at' k r))) → Origin s room key n k w
+    top b (inl d) = came i j (rw d refl)
+    top b (inr m) = there w (below-was (s .now) (r .keeps) (at' k r) w m) (like-itself w)
+    held : (num until : ℕ) → ((u : Version) × (w ≡ holdTo until u) × Found (isNum num) (at' k r) u) ⊎ List·Memᴰ w (at' k r) → Origin s room key n k w
+    held num until (inl t) = there (t .0) (t .2 .there) (rw (t .1) (record { num = refl; body = refl; at = refl; held = higher-left (t .0 .held) until }))
+    held num until (inr m) = there w m (like-itself w)
+    go : {c : Call} {reply : Reply} {next : ℕ} {us : List Upload} {vs : List Version} → Sets s n r k c reply next us vs → List·Memᴰ w vs → Origin s room key n k w
+    go (new b wr l) m = top b (List·Memᴰ·cases-cons m)
+    go (gone a b) m = absurd (List·Memᴰ·not-nil m)
+    go (fewer num v z d f) m = there w (kept-was (λ (u : Version). not (isNum (v .num) u)) (at' k r) w m .there) (like-itself w)
+    go (longer num until v t d f) m = held num until (changed-was (isNum num) (holdTo until) (at' k r) w m)
+origin s room key n k (ages t r e) w m = go (aged-was-or-mark (later t (s .now)) (r .keeps) (ruleFor k (r .rules)) (at' k r) w m)
+  where
+    go : List·Memᴰ w (at' k r) ⊎ (w .num ≡ 0) → Origin s room key n k w
+    go (inl m) = was w (rw (versions-found n k s r e) m) (like-itself w)
+    go (inr z) = marks z
