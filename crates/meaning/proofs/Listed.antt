@@ -9,11 +9,12 @@ use lib.Dec.{eqb, ltb, T}
 use lib.ListN.{length}
 use Rattle.std.proofs.shelf.Tests.{and-parts}
 use Rattle.meaning.specs.Lists.{Name, keep, find, firstOf, none, less, begins}
-use Rattle.meaning.specs.Rooms.{Body, Bytes, Removed, Version, Object, Room, State, blank, Call, Look, Shown, Reply, List', Out}
+use Rattle.meaning.specs.Rooms.{Body, Bytes, Removed, Version, Object, Room, State, Call, Look, Shown, Reply, List', Out}
 use Rattle.meaning.specs.Does.{no, does, acts, isTick, inRoomOr, isRoom, isRemoved, bytesOf, current, numOf, small, shownOf}
-use Rattle.meaning.specs.Laws.{Run, InRoom, shown, Exact, risingKeys, risingShown, ListExact}
+use Rattle.meaning.specs.Laws.{InRoom, shown, Exact, risingKeys, risingShown, ListExact}
 use Rattle.meaning.proofs.Names.{so, is-so, less-irrefl, less-trans}
-use Rattle.meaning.proofs.Good.{Pairs, Before, Good}
+use Rattle.meaning.proofs.Good.{Pairs, Before}
+use Rattle.meaning.proofs.Bounds.{good}
 use Rattle.meaning.proofs.Finds.{found}
 
 -- is it asked for
@@ -193,5 +194,5 @@ exact r p a most rise =
 pub look-exact : (s : State) (n p a : Name) (most : ℕ) (r : Room) (xs : List Shown) → find (isRoom n) (s .rooms) ≡ r ∷ [] → Pairs Before (r .objects) → does (Look n p a most) s .reply ≡ List' xs → Exact r p a most xs
 look-exact s n p a most r xs e rise f = subst (Exact r p a most) (sym (look-answers s n p a most r xs e f)) (exact r p a most rise)
 
-pub list-exact : ((s : State) → Run blank s → Good s) → ListExact
-list-exact good s run n p a most r xs e f = look-exact s n p a most r xs e (good s run .rooms-good r (found (isRoom n) (s .rooms) r [] e .there) .keys-rise) f
+pub list-exact : ListExact
+list-exact s run n p a most r xs e f = look-exact s n p a most r xs e (good run .rooms-good r (found (isRoom n) (s .rooms) r [] e .there) .keys-rise) f

@@ -8,10 +8,11 @@ use native.Mathlib.Omega.{arith}
 use lib.Dec.{eqb, ltb, leb, T}
 use Rattle.std.proofs.shelf.Ways.{tells}
 use Rattle.meaning.specs.Lists.{Name, find}
-use Rattle.meaning.specs.Rooms.{Body, Bytes, Removed, Version, Object, Rule, Room, State, blank, Call, Tick, Out}
+use Rattle.meaning.specs.Rooms.{Body, Bytes, Removed, Version, Object, Rule, Room, State, Call, Tick, Out}
 use Rattle.meaning.specs.Does.{no, does, acts, isTick, isRoom, isObject, isHeld, isRemoved, due, ruleFor, oldKept, tidy, covered, aged, kept, agedObjects, agedRoom, later, ticked, small, withObjects, withRooms, versionsOf}
-use Rattle.meaning.specs.Laws.{Run, versionsIn, alone, RulesAlone, SameTimeAgain}
-use Rattle.meaning.proofs.Good.{Pairs, Over, Before, Good}
+use Rattle.meaning.specs.Laws.{versionsIn, alone, RulesAlone, SameTimeAgain}
+use Rattle.meaning.proofs.Good.{Pairs, Over, Before}
+use Rattle.meaning.proofs.Bounds.{good}
 use Rattle.meaning.proofs.Finds.{found, at-find, find-mapped}
 use Rattle.meaning.proofs.Objects.{found-aged}
 
@@ -230,8 +231,8 @@ each-alone s t n k p =
 
 -- THE LAWS
 
-pub same-time-again : ((s : State) → Run blank s → Good s) → SameTimeAgain
-same-time-again good s t run = time-again s t (λ r m. good s run .rooms-good r m .stacked)
+pub same-time-again : SameTimeAgain
+same-time-again s t run = time-again s t (λ r m. good run .rooms-good r m .stacked)
 
-pub rules-alone : ((s : State) → Run blank s → Good s) → RulesAlone
-rules-alone good s t run n k = each-alone s t n k (λ r m. good s run .rooms-good r m .keys-rise)
+pub rules-alone : RulesAlone
+rules-alone s t run n k = each-alone s t n k (λ r m. good run .rooms-good r m .keys-rise)

@@ -18,6 +18,7 @@ use Rattle.meaning.proofs.Good.{Pairs, Before, Good}
 use Rattle.meaning.proofs.Finds.{found, at-find}
 use Rattle.meaning.proofs.Objects.{none-after}
 use Rattle.meaning.proofs.Refusals.{never-full}
+use Rattle.meaning.proofs.Bounds.{good}
 use Rattle.meaning.specs.Answers.{Answers, says-so, not-yet, too-full}
 use Rattle.meaning.specs.Laws.{Run, WeightGrows, FullOnly, Grows, making, putting, beginning, putting-a-part, removing-the-latest}
 use Rattle.meaning.proofs.Steps.{fresh, holdTo, others, without, Writes, by-put, by-remove, by-complete, Sets, new, gone, fewer, longer, Within, sets, begun, parted, aborted, ruled, Step, stands, made, dropped, told, within, steps}
@@ -381,13 +382,13 @@ step-grows {s = s} {c = c} (within n r q d left w) e p l =
 sound : (s : State) → Good s → (r : Room) → List·Memᴰ r (s .rooms) → Sound r
 sound s g r m = record { keys-rise = g .rooms-good r m .keys-rise; numbered = λ o i v j. g .fits .rooms-fit r m .objects-fit o i .each-fits v j .numbered }
 
-pub weight-grows : ((s : State) → Run blank s → Good s) → WeightGrows
-weight-grows good s c run l = step-grows (steps c s) refl (sound s (good s run)) l
+pub weight-grows : WeightGrows
+weight-grows s c run l = step-grows (steps c s) refl (sound s (good run)) l
 
-full-grows : ((s : State) → Run blank s → Good s) → (can : Call → Bool) (size : ℕ) {c : Call} {s t : State} {r : Reply} → Answers can size c s r t → Run blank s → r ≡ Full → Grows c
-full-grows good can size (says-so c s built) run e = absurd (never-full c s e)
-full-grows good can size (not-yet c s unbuilt) run e = absurd (let z : _≡_ {A = ℕ} 0 1 = cc in omega arith)
-full-grows good can size (too-full c s built more over) run e = weight-grows good s c run more
+full-grows : (can : Call → Bool) (size : ℕ) {c : Call} {s t : State} {r : Reply} → Answers can size c s r t → Run blank s → r ≡ Full → Grows c
+full-grows can size (says-so c s built) run e = absurd (never-full c s e)
+full-grows can size (not-yet c s unbuilt) run e = absurd (let z : _≡_ {A = ℕ} 0 1 = cc in omega arith)
+full-grows can size (too-full c s built more over) run e = weight-grows s c run more
 
-pub full-only : ((s : State) → Run blank s → Good s) → FullOnly
-full-only good can size s t c r run a e = full-grows good can size a run e
+pub full-only : FullOnly
+full-only can size s t c r run a e = full-grows can size a run e
