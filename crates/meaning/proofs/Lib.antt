@@ -2,6 +2,7 @@ pub mod Refusals
 pub mod Listed
 pub mod Ruled
 pub mod Weighs
+pub mod Grown
 pub mod Names
 pub mod Good
 pub mod Finds

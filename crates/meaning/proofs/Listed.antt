@@ -1,6 +1,6 @@
 -- A list shows the keys of a room that begin so and come after, in order, and leaves none out.
 -- Assumes nothing.
-use mathlib.Core.Path.{_≡_, refl, sym, _∙_, ap, subst}
+use mathlib.Core.Path.{_≡_, refl, sym, ap, subst}
 use mathlib.Core.Bool.{Bool, true, false, cond, not, _&&_}
 use mathlib.Core.List.{List, [], _∷_, List·Memᴰ, List·Memᴰ·head, List·Memᴰ·tail}
 use Prim.Native.Nat.{ℕ, zero, suc, _≤_, _<_}
@@ -9,7 +9,7 @@ use lib.Dec.{eqb, ltb, T}
 use lib.ListN.{length}
 use Rattle.std.proofs.shelf.Tests.{and-parts}
 use Rattle.meaning.specs.Lists.{Name, keep, find, firstOf, none, less, begins}
-use Rattle.meaning.specs.Rooms.{Body, Bytes, Removed, Version, Object, Room, State, Call, Look, Shown, Reply, List', Out}
+use Rattle.meaning.specs.Rooms.{Body, Bytes, Removed, Version, Object, Room, State, Look, Shown, List', Out}
 use Rattle.meaning.specs.Does.{no, does, acts, isTick, inRoomOr, isRoom, isRemoved, bytesOf, current, numOf, small, shownOf}
 use Rattle.meaning.specs.Laws.{InRoom, shown, Exact, risingKeys, risingShown, ListExact}
 use Rattle.meaning.proofs.Names.{so, is-so, less-irrefl, less-trans}
@@ -47,6 +47,7 @@ shows o os = at (o .versions) refl
     of : (v : Version) (vs : List Version) → o .versions ≡ v ∷ vs → (b : Body) → v .body ≡ b → Shows o os (shownOf (o ∷ os))
     of v vs e (Bytes bs) f = subst (Shows o os) (sym (shown-line o os v vs bs e f)) (latest v vs bs e f)
     of v vs e Removed f = subst (Shows o os) (sym (shown-removed o os v vs e f)) nothing
+
     at : (vs : List Version) → o .versions ≡ vs → Shows o os (shownOf (o ∷ os))
     at [] e = subst (Shows o os) (sym (shown-none o os e)) nothing
     at (v ∷ vs) e = of v vs e (v .body) refl
@@ -57,9 +58,10 @@ each-shown : (r : Room) (p a : Name) (os : List Object) → ((o : Object) → Li
 unfolding keep shownOf
 each-shown r p a [] within x m = elim m [ ]
 each-shown r p a (o ∷ os) within x m =
-    (elim (asked p a o) as (λ b. asked p a o ≡ b → List·Memᴰ x (shownOf (cond b (o ∷ keep (asked p a) os) (keep (asked p a) os))) → InRoom r p a x)
-      [ true ↦ λ e m. this e (shownOf (o ∷ keep (asked p a) os)) (shows o (keep (asked p a) os)) m (each-shown r p a os (λ q i. within q (List·Memᴰ·tail i)) x)
-      | false ↦ λ e m. each-shown r p a os (λ q i. within q (List·Memᴰ·tail i)) x m ]) refl m
+    (elim (asked p a o) as (λ b. asked p a o ≡ b → List·Memᴰ x (shownOf (cond b (o ∷ keep (asked p a) os) (keep (asked p a) os))) → InRoom r p a x) [
+      | true ↦ λ e m. this e (shownOf (o ∷ keep (asked p a) os)) (shows o (keep (asked p a) os)) m (each-shown r p a os (λ q i. within q (List·Memᴰ·tail i)) x)
+      | false ↦ λ e m. each-shown r p a os (λ q i. within q (List·Memᴰ·tail i)) x m
+    ]) refl m
   where
     this : asked p a o ≡ true → (xs : List Shown) → Shows o (keep (asked p a) os) xs → List·Memᴰ x xs → (List·Memᴰ x (shownOf (keep (asked p a) os)) → InRoom r p a x) → InRoom r p a x
     this e xs nothing m rest = rest m
@@ -69,14 +71,15 @@ each-shown r p a (o ∷ os) within x m =
 
 -- NONE IS LEFT OUT: before the cut
 listed : (p a : Name) (os : List Object) (o : Object) (v : Version) (vs : List Version) (bs : List ℕ) → List·Memᴰ o os → o .versions ≡ v ∷ vs → v .body ≡ Bytes bs → asked p a o ≡ true →
-  List·Memᴰ (line o v bs) (shownOf (keep (asked p a) os))
+    List·Memᴰ (line o v bs) (shownOf (keep (asked p a) os))
 unfolding keep
 listed p a [] o v vs bs m e f g = elim m [ ]
 listed p a (q ∷ os) o v vs bs (List·Memᴰ·head i) e f g = subst (λ (q : Object). List·Memᴰ (line o v bs) (shownOf (keep (asked p a) (q ∷ os)))) i (rw (g, shown-line o (keep (asked p a) os) v vs bs e f) (List·Memᴰ·head refl))
 listed p a (q ∷ os) o v vs bs (List·Memᴰ·tail m) e f g =
-    elim (asked p a q) as (λ b. List·Memᴰ (line o v bs) (shownOf (cond b (q ∷ keep (asked p a) os) (keep (asked p a) os))))
-      [ true ↦ past (shownOf (q ∷ keep (asked p a) os)) (shows q (keep (asked p a) os)) (listed p a os o v vs bs m e f g)
-      | false ↦ listed p a os o v vs bs m e f g ]
+    elim (asked p a q) as (λ b. List·Memᴰ (line o v bs) (shownOf (cond b (q ∷ keep (asked p a) os) (keep (asked p a) os)))) [
+      | true ↦ past (shownOf (q ∷ keep (asked p a) os)) (shows q (keep (asked p a) os)) (listed p a os o v vs bs m e f g)
+      | false ↦ listed p a os o v vs bs m e f g
+    ]
   where
     past : (xs : List Shown) → Shows q (keep (asked p a) os) xs → List·Memᴰ (line o v bs) (shownOf (keep (asked p a) os)) → List·Memᴰ (line o v bs) xs
     past xs nothing m = m
@@ -101,9 +104,10 @@ shown-rises : (p a : Name) (os : List Object) → Pairs Before os → Pairs Ahea
 unfolding keep shownOf
 shown-rises p a [] r = tt
 shown-rises p a (o ∷ os) r =
-    elim (asked p a o) as (λ b. Pairs Ahead (shownOf (cond b (o ∷ keep (asked p a) os) (keep (asked p a) os))))
-      [ true ↦ this (shownOf (o ∷ keep (asked p a) os)) (shows o (keep (asked p a) os)) (shown-rises p a os (r .1))
-      | false ↦ shown-rises p a os (r .1) ]
+    elim (asked p a o) as (λ b. Pairs Ahead (shownOf (cond b (o ∷ keep (asked p a) os) (keep (asked p a) os)))) [
+      | true ↦ this (shownOf (o ∷ keep (asked p a) os)) (shows o (keep (asked p a) os)) (shown-rises p a os (r .1))
+      | false ↦ shown-rises p a os (r .1)
+    ]
   where
     this : (xs : List Shown) → Shows o (keep (asked p a) os) xs → Pairs Ahead (shownOf (keep (asked p a) os)) → Pairs Ahead xs
     this xs nothing rest = rest
@@ -167,7 +171,7 @@ answered false false true s o xs e = cc
 answered false false false s o xs e = e
 
 look-answers : (s : State) (n p a : Name) (most : ℕ) (r : Room) (xs : List Shown) → find (isRoom n) (s .rooms) ≡ r ∷ [] → does (Look n p a most) s .reply ≡ List' xs →
-  xs ≡ firstOf most (shownOf (keep (asked p a) (r .objects)))
+    xs ≡ firstOf most (shownOf (keep (asked p a) (r .objects)))
 unfolding acts isTick inRoomOr
 look-answers s n p a most r xs e f =
     let h = answered (eqb (s .now) 0 && true) (not (small (s .next)) && true) (ltb 1000 most) s _ xs f in
@@ -182,16 +186,17 @@ exact r p a most rise =
       each-is-there = λ x m. each-shown r p a (r .objects) (λ o i. i) x (first-in most all x m);
       none-left-out-before = λ x y m i h. first-before most all x y rises m (all-listed r p a y i) (is-so (less (y .key) (x .key)) h);
       none-left-out = λ x i h. first-all most all x (all-listed r p a x i) h;
-      no-more = first-few most all
+      no-more = first-few most all;
     }
   where
     all : List Shown
     all = shownOf (keep (asked p a) (r .objects))
+
     rises : Pairs Ahead all
     rises = shown-rises p a (r .objects) rise
 
 -- as keys rise in a room, a list of it is exact
-pub look-exact : (s : State) (n p a : Name) (most : ℕ) (r : Room) (xs : List Shown) → find (isRoom n) (s .rooms) ≡ r ∷ [] → Pairs Before (r .objects) → does (Look n p a most) s .reply ≡ List' xs → Exact r p a most xs
+look-exact : (s : State) (n p a : Name) (most : ℕ) (r : Room) (xs : List Shown) → find (isRoom n) (s .rooms) ≡ r ∷ [] → Pairs Before (r .objects) → does (Look n p a most) s .reply ≡ List' xs → Exact r p a most xs
 look-exact s n p a most r xs e rise f = subst (Exact r p a most) (sym (look-answers s n p a most r xs e f)) (exact r p a most rise)
 
 pub list-exact : ListExact

@@ -8,9 +8,9 @@ use native.Mathlib.Omega.{arith}
 use lib.Dec.{eqb, ltb, leb}
 use lib.ListN.{length}
 use Rattle.meaning.specs.Lists.{Name, some, every, find, none}
-use Rattle.meaning.specs.Rooms.{Version, Upload, Room, State, Expect, Call, MakeRoom, DropRoom, Put, Get, Remove, Look, Versions, Begin, PutPart, Complete, Abort, Hold, SetRules, Tick, Reply, No, Yes, Num, Got, List', Full, Out, Part, Shown}
+use Rattle.meaning.specs.Rooms.{Version, Upload, Room, State, Expect, Call, MakeRoom, DropRoom, Put, Get, Remove, Look, Versions, Begin, PutPart, Complete, Abort, Hold, SetRules, Tick, Reply, No, Yes, Num, Got, List', Full, Out, Shown}
 use Rattle.meaning.specs.Does.{no, at', isRoom, isHeld, meets, current, nameOk, bytes, gapless, ruleOk, small, inRoomOr, puts, gets, removesOne, removesLatest, partsPut, completes, unless-no, aborts, holds, acts, does, isTick}
-use Rattle.meaning.specs.Answers.{Answers, Refuses, full, says-so, not-yet, too-full}
+use Rattle.meaning.specs.Answers.{Refuses, full, says-so, not-yet, too-full}
 use Rattle.meaning.specs.Laws.{RefusalsChangeNothing}
 
 -- a refusal by a number that leaves the state as it was, or no refusal
@@ -58,7 +58,7 @@ calm-removesOne n k (v ∷ vs) r s = calm-cond (isHeld (s .now) v) (calm-no 6 s)
 calm-removesLatest : (n k : Name) (r : Room) (s : State) → Calm s (removesLatest n k r s)
 calm-removesLatest n k r s =
     calm-cond (none (current (at' k r))) (calm-no 2 s)
-      (calm-cond (leb 1024 (length (at' k r))) (calm-no 8 s) (calm-cond (r .keeps || some (isHeld (s .now)) (at' k r)) (calm-num (s .next) s _) (calm-yes s _)))
+    (calm-cond (leb 1024 (length (at' k r))) (calm-no 8 s) (calm-cond (r .keeps || some (isHeld (s .now)) (at' k r)) (calm-num (s .next) s _) (calm-yes s _)))
 
 calm-partsPut : (n : Name) (u p : ℕ) (bs : List ℕ) (us : List Upload) (s : State) → Calm s (partsPut n u p bs us s)
 unfolding partsPut

@@ -1,20 +1,21 @@
 -- Rules do to each thing what they would do if it were alone, and the same time told again changes nothing.
 -- Assumes nothing.
 use mathlib.Core.Path.{_≡_, refl, sym, _∙_, ap, ap₂}
-use mathlib.Core.Bool.{Bool, true, false, cond, not, _&&_, _||_}
+use mathlib.Core.Bool.{Bool, true, false, cond, not, _&&_}
 use mathlib.Core.List.{List, [], _∷_, map, List·Memᴰ, List·Memᴰ·head, List·Memᴰ·tail, List·Memᴰ·not-nil}
-use Prim.Native.Nat.{ℕ, _+_, _≤_, _<_}
+use Prim.Native.Nat.{ℕ, _≤_}
 use native.Mathlib.Omega.{arith}
-use lib.Dec.{eqb, ltb, leb, T}
+use lib.Dec.{eqb, ltb}
 use Rattle.std.proofs.shelf.Ways.{tells}
 use Rattle.meaning.specs.Lists.{Name, find}
-use Rattle.meaning.specs.Rooms.{Body, Bytes, Removed, Version, Object, Rule, Room, State, Call, Tick, Out}
-use Rattle.meaning.specs.Does.{no, does, acts, isTick, isRoom, isObject, isHeld, isRemoved, due, ruleFor, oldKept, tidy, covered, aged, kept, agedObjects, agedRoom, later, ticked, small, withObjects, withRooms, versionsOf}
+use Rattle.meaning.specs.Rooms.{Version, Object, Rule, Room, State, Tick, Out}
+use Rattle.meaning.specs.Does.{no, does, acts, isTick, isRoom, isObject, isHeld, isRemoved, due, ruleFor, oldKept, tidy, covered, aged, kept, agedObjects, agedRoom, later, ticked, small, withObjects, versionsOf}
 use Rattle.meaning.specs.Laws.{versionsIn, alone, RulesAlone, SameTimeAgain}
 use Rattle.meaning.proofs.Good.{Pairs, Over, Before}
 use Rattle.meaning.proofs.Bounds.{good}
 use Rattle.meaning.proofs.Finds.{found, at-find, find-mapped}
 use Rattle.meaning.proofs.Objects.{found-aged}
+use Rattle.meaning.proofs.Heaps.{mark}
 
 -- THE SAME TIME AGAIN
 
@@ -23,7 +24,7 @@ data Lasting (now l : ℕ) : ℕ → List Version → Type 0 where
   bottom : {a : ℕ} → Lasting now l a []
   stays : {a : ℕ} {v : Version} {vs : List Version} → (due now l a && not (isHeld now v)) ≡ false → Lasting now l (v .at) vs → Lasting now l a (v ∷ vs)
 
--- what isn't due on top of one isn't due under a later one either
+-- what isn't due under one that came at b isn't due under a later one either
 lasting-under : (now l a b : ℕ) (vs : List Version) → b ≤ a → Lasting now l b vs → Lasting now l a vs
 lasting-under now l a b [] h bottom = bottom
 lasting-under now l a b (v ∷ vs) h (stays e w) = stays (not-due (isHeld now v) e) w
@@ -42,13 +43,10 @@ unfolding oldKept
 lasting-oldKept now l keeps v [] p = bottom
 lasting-oldKept now l keeps v (w ∷ vs) p =
     (elim (due now l (v .at) && not (isHeld now w))
-        as (λ b. (due now l (v .at) && not (isHeld now w)) ≡ b → Lasting now l (v .at) (cond b (oldKept now l (w .at) vs) (w ∷ oldKept now l (w .at) vs)))
-      [ true ↦ λ e. lasting-under now l (v .at) (w .at) (oldKept now l (w .at) vs) (p .0 w (List·Memᴰ·head refl) .later) (lasting-oldKept now l keeps w vs (p .1))
-      | false ↦ λ e. stays e (lasting-oldKept now l keeps w vs (p .1)) ]) refl
-
--- the mark that a rule puts on top
-abbrev mark : ℕ → Version
-mark now = record { num = 0; body = Removed; at = now; held = 0 }
+    as (λ b. (due now l (v .at) && not (isHeld now w)) ≡ b → Lasting now l (v .at) (cond b (oldKept now l (w .at) vs) (w ∷ oldKept now l (w .at) vs))) [
+      | true ↦ λ e. lasting-under now l (v .at) (w .at) (oldKept now l (w .at) vs) (p .0 w (List·Memᴰ·head refl) .later) (lasting-oldKept now l keeps w vs (p .1))
+      | false ↦ λ e. stays e (lasting-oldKept now l keeps w vs (p .1))
+    ]) refl
 
 -- may the rule take the latest
 abbrev goes : ℕ → Rule → Version → Bool
@@ -71,12 +69,13 @@ lasting-now now l v vs w = stays (not-yet (isHeld now v)) w
 
 -- what a rule has left, it leaves
 aged-lasting : (now : ℕ) (keeps : Bool) (x : Rule) (xs : List Rule) (v : Version) (vs : List Version) → goes now x v ≡ false → Lasting now (x .oldLasts) (v .at) vs →
-  aged now keeps (x ∷ xs) (tidy (v ∷ vs)) ≡ tidy (v ∷ vs)
+    aged now keeps (x ∷ xs) (tidy (v ∷ vs)) ≡ tidy (v ∷ vs)
 unfolding aged tidy oldKept
 aged-lasting now keeps x xs v [] g w =
-    (elim (isRemoved (v .body)) as (λ b. isRemoved (v .body) ≡ b → aged now keeps (x ∷ xs) (cond b [] (v ∷ [])) ≡ cond b [] (v ∷ []))
-      [ true ↦ λ e. refl
-      | false ↦ λ e. rw (g, e) refl ]) refl
+    (elim (isRemoved (v .body)) as (λ b. isRemoved (v .body) ≡ b → aged now keeps (x ∷ xs) (cond b [] (v ∷ [])) ≡ cond b [] (v ∷ [])) [
+      | true ↦ λ e. refl
+      | false ↦ λ e. rw (g, e) refl
+    ]) refl
 aged-lasting now keeps x xs v (u ∷ vs) g w = rw (g, oldKept-lasting now (x .oldLasts) (v .at) (u ∷ vs) w) refl
 
 aged-covered : (now : ℕ) (keeps : Bool) (x : Rule) (xs : List Rule) (a : ℕ) (vs : List Version) → Lasting now (x .oldLasts) a vs → aged now keeps (x ∷ xs) (tidy (covered now vs)) ≡ tidy (covered now vs)
@@ -84,22 +83,26 @@ unfolding aged tidy covered
 aged-covered now keeps x xs a [] bottom = refl
 aged-covered now keeps x xs a (u ∷ vs) (stays e w) = aged-lasting now keeps x xs (mark now) (u ∷ vs) (mark-stays now x) (lasting-now now (x .oldLasts) u vs w)
 
-pub aged-again : (now : ℕ) (keeps : Bool) (xs : List Rule) (vs : List Version) → Pairs (Over keeps) vs → aged now keeps xs (aged now keeps xs vs) ≡ aged now keeps xs vs
+aged-again : (now : ℕ) (keeps : Bool) (xs : List Rule) (vs : List Version) → Pairs (Over keeps) vs → aged now keeps xs (aged now keeps xs vs) ≡ aged now keeps xs vs
 unfolding aged
 aged-again now keeps [] vs p = refl
 aged-again now keeps (x ∷ xs) [] p = refl
 aged-again now keeps (x ∷ xs) (v ∷ vs) p =
     (elim (goes now x v)
-        as (λ b. goes now x v ≡ b → aged now keeps (x ∷ xs) (left b) ≡ left b)
-      [ true ↦ λ e. marked keeps
-      | false ↦ λ e. aged-lasting now keeps x xs v older e lasting ]) refl
+    as (λ b. goes now x v ≡ b → aged now keeps (x ∷ xs) (left b) ≡ left b) [
+      | true ↦ λ e. marked keeps
+      | false ↦ λ e. aged-lasting now keeps x xs v older e lasting
+    ]) refl
   where
     older : List Version
     older = oldKept now (x .oldLasts) (v .at) vs
+
     left : Bool → List Version
     left b = tidy (cond b (cond keeps (mark now ∷ v ∷ older) (covered now older)) (v ∷ older))
+
     lasting : Lasting now (x .oldLasts) (v .at) older
     lasting = lasting-oldKept now (x .oldLasts) keeps v vs p
+
     marked : (k : Bool) → aged now keeps (x ∷ xs) (tidy (cond k (mark now ∷ v ∷ older) (covered now older))) ≡ tidy (cond k (mark now ∷ v ∷ older) (covered now older))
     marked true = aged-lasting now keeps x xs (mark now) (v ∷ older) (mark-stays now x) (lasting-now now (x .oldLasts) v older lasting)
     marked false = aged-covered now keeps x xs (v .at) older lasting
@@ -115,7 +118,7 @@ unfolding agedObjects kept
 agedObjects-again now r [] p = refl
 agedObjects-again now r (o ∷ os) p =
     stay (aged now (r .keeps) (ruleFor (o .key) (r .rules)) (o .versions)) (agedObjects now r os) (aged-again now (r .keeps) (ruleFor (o .key) (r .rules)) (o .versions) (p o (List·Memᴰ·head refl)))
-      (agedObjects-again now r os (λ q m. p q (List·Memᴰ·tail m)))
+    (agedObjects-again now r os (λ q m. p q (List·Memᴰ·tail m)))
   where
     stay : (vs : List Version) (rest : List Object) → aged now (r .keeps) (ruleFor (o .key) (r .rules)) vs ≡ vs → agedObjects now r rest ≡ rest → agedObjects now r (kept (o .key) vs rest) ≡ kept (o .key) vs rest
     stay [] rest e f = f
@@ -151,15 +154,17 @@ unfolding acts
 tick-refused t s e = ap (λ (o : Out). o .state) (tick-acts t s) ∙ rw e refl
 
 -- as each room's things are stacked by their times, telling the time again changes nothing
-pub time-again : (s : State) (t : ℕ) → ((r : Room) → List·Memᴰ r (s .rooms) → (o : Object) → List·Memᴰ o (r .objects) → Pairs (Over (r .keeps)) (o .versions)) →
-  does (Tick t) (does (Tick t) s .state) .state ≡ does (Tick t) s .state
+time-again : (s : State) (t : ℕ) → ((r : Room) → List·Memᴰ r (s .rooms) → (o : Object) → List·Memᴰ o (r .objects) → Pairs (Over (r .keeps)) (o .versions)) →
+    does (Tick t) (does (Tick t) s .state) .state ≡ does (Tick t) s .state
 time-again s t p =
-    (elim (tells-time t) as (λ b. tells-time t ≡ b → does (Tick t) (does (Tick t) s .state) .state ≡ does (Tick t) s .state)
-      [ true ↦ λ e. rw (tick-told t s e) (tick-told t (ticked (later t (s .now)) s) e ∙ told)
-      | false ↦ λ e. rw (tick-refused t s e) (tick-refused t s e) ]) refl
+    (elim (tells-time t) as (λ b. tells-time t ≡ b → does (Tick t) (does (Tick t) s .state) .state ≡ does (Tick t) s .state) [
+      | true ↦ λ e. rw (tick-told t s e) (tick-told t (ticked (later t (s .now)) s) e ∙ told)
+      | false ↦ λ e. rw (tick-refused t s e) (tick-refused t s e)
+    ]) refl
   where
     now : ℕ
     now = later t (s .now)
+
     told : ticked (later t now) (ticked now s) ≡ ticked now s
     told = rw same-now (ap (λ (rs : List Room). record { now = now; next = s .next; rooms = rs }) (rooms-again now (s .rooms) (λ r m. agedRoom-again now r (p r m))))
       where
@@ -176,13 +181,14 @@ find-again : (k : Name) (os : List Object) → find (isObject k) (find (isObject
 unfolding find
 find-again k [] = refl
 find-again k (o ∷ os) =
-    (elim (isObject k o) as (λ b. isObject k o ≡ b → find (isObject k) (cond b (o ∷ []) (find (isObject k) os)) ≡ cond b (o ∷ []) (find (isObject k) os))
-      [ true ↦ λ e. rw e refl
-      | false ↦ λ e. find-again k os ]) refl
+    (elim (isObject k o) as (λ b. isObject k o ≡ b → find (isObject k) (cond b (o ∷ []) (find (isObject k) os)) ≡ cond b (o ∷ []) (find (isObject k) os)) [
+      | true ↦ λ e. rw e refl
+      | false ↦ λ e. find-again k os
+    ]) refl
 
 -- what rules leave under a key is what they leave of that alone
 aged-alone : (now : ℕ) (r : Room) (k : Name) → Pairs Before (r .objects) →
-  versionsOf (find (isObject k) (agedRoom now r .objects)) ≡ versionsOf (find (isObject k) (agedRoom now (roomAlone k r) .objects))
+    versionsOf (find (isObject k) (agedRoom now r .objects)) ≡ versionsOf (find (isObject k) (agedRoom now (roomAlone k r) .objects))
 aged-alone now r k p =
     found-aged now r k (r .objects) p
     ∙ ap (λ (os : List Object). aged now (r .keeps) (ruleFor k (r .rules)) (versionsOf os)) (sym (find-again k (r .objects)))
@@ -208,7 +214,7 @@ room-told now s n rs e = find-mapped (isRoom n) (agedRoom now) (λ r. refl) (s .
 
 -- told the time, and not told it, a thing is as it would be alone
 alone-told : (now : ℕ) (s : State) (n k : Name) (rs : List Room) → find (isRoom n) (s .rooms) ≡ rs → ((r : Room) → List·Memᴰ r (s .rooms) → Pairs Before (r .objects)) →
-  versionsIn n k (ticked now s) ≡ versionsIn n k (ticked now (alone n k s))
+    versionsIn n k (ticked now s) ≡ versionsIn n k (ticked now (alone n k s))
 unfolding find
 alone-told now s n k [] e p = in-none (ticked now s) n k (room-told now s n [] e) ∙ sym (in-none (ticked now (alone n k s)) n k (room-told now (alone n k s) n [] (rw e refl)))
 alone-told now s n k (r ∷ q) e p =
@@ -222,12 +228,13 @@ alone-untold s n k [] e = in-none s n k e ∙ sym (in-none (alone n k s) n k (rw
 alone-untold s n k (r ∷ q) e = in-found s n k r q e ∙ ap versionsOf (sym (find-again k (r .objects))) ∙ sym (in-found (alone n k s) n k (roomAlone k r) [] (room-alone s n k r q e))
 
 -- as keys rise in each room, rules do to each thing what they would do to it alone
-pub each-alone : (s : State) (t : ℕ) (n k : Name) → ((r : Room) → List·Memᴰ r (s .rooms) → Pairs Before (r .objects)) →
-  versionsIn n k (does (Tick t) s .state) ≡ versionsIn n k (does (Tick t) (alone n k s) .state)
+each-alone : (s : State) (t : ℕ) (n k : Name) → ((r : Room) → List·Memᴰ r (s .rooms) → Pairs Before (r .objects)) →
+    versionsIn n k (does (Tick t) s .state) ≡ versionsIn n k (does (Tick t) (alone n k s) .state)
 each-alone s t n k p =
-    (elim (tells-time t) as (λ b. tells-time t ≡ b → versionsIn n k (does (Tick t) s .state) ≡ versionsIn n k (does (Tick t) (alone n k s) .state))
-      [ true ↦ λ e. ap (versionsIn n k) (tick-told t s e) ∙ alone-told (later t (s .now)) s n k (find (isRoom n) (s .rooms)) refl p ∙ ap (versionsIn n k) (sym (tick-told t (alone n k s) e))
-      | false ↦ λ e. ap (versionsIn n k) (tick-refused t s e) ∙ alone-untold s n k (find (isRoom n) (s .rooms)) refl ∙ ap (versionsIn n k) (sym (tick-refused t (alone n k s) e)) ]) refl
+    (elim (tells-time t) as (λ b. tells-time t ≡ b → versionsIn n k (does (Tick t) s .state) ≡ versionsIn n k (does (Tick t) (alone n k s) .state)) [
+      | true ↦ λ e. ap (versionsIn n k) (tick-told t s e) ∙ alone-told (later t (s .now)) s n k (find (isRoom n) (s .rooms)) refl p ∙ ap (versionsIn n k) (sym (tick-told t (alone n k s) e))
+      | false ↦ λ e. ap (versionsIn n k) (tick-refused t s e) ∙ alone-untold s n k (find (isRoom n) (s .rooms)) refl ∙ ap (versionsIn n k) (sym (tick-refused t (alone n k s) e))
+    ]) refl
 
 -- THE LAWS
 

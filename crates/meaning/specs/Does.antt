@@ -87,7 +87,7 @@ inRoomOr (r ∷ rs) f s = f r
 abbrev pub puts : Name → Name → List ℕ → Expect → Room → State → Out
 puts n k bs x r s =
     cond (not (meets x (at' k r))) (no 4 s) (cond (leb 1024 (length (at' k r))) (no 8 s)
-      (record { reply = Num (s .next); state = numbered (change (isRoom n) (withObjects (setObject k (onTop (s .now) (r .keeps) (record { num = s .next; body = Bytes bs; at = s .now; held = 0 }) (at' k r)) (r .objects))) (s .rooms)) s }))
+    (record { reply = Num (s .next); state = numbered (change (isRoom n) (withObjects (setObject k (onTop (s .now) (r .keeps) (record { num = s .next; body = Bytes bs; at = s .now; held = 0 }) (at' k r)) (r .objects))) (s .rooms)) s }))
 
 abbrev pub isNum : ℕ → Version → Bool
 isNum k v = eqb k (v .num)
@@ -106,8 +106,8 @@ removesOne n k (v ∷ vs) r s = cond (isHeld (s .now) v) (no 6 s) (record { repl
 abbrev pub removesLatest : Name → Name → Room → State → Out
 removesLatest n k r s =
     cond (none (current (at' k r))) (no 2 s) (cond (leb 1024 (length (at' k r))) (no 8 s) (cond (r .keeps || some (isHeld (s .now)) (at' k r))
-      (record { reply = Num (s .next); state = numbered (change (isRoom n) (withObjects (setObject k (onTop (s .now) (r .keeps) (record { num = s .next; body = Removed; at = s .now; held = 0 }) (at' k r)) (r .objects))) (s .rooms)) s })
-      (record { reply = Yes; state = inRoom n (withObjects (setObject k [] (r .objects))) s })))
+    (record { reply = Num (s .next); state = numbered (change (isRoom n) (withObjects (setObject k (onTop (s .now) (r .keeps) (record { num = s .next; body = Removed; at = s .now; held = 0 }) (at' k r)) (r .objects))) (s .rooms)) s })
+    (record { reply = Yes; state = inRoom n (withObjects (setObject k [] (r .objects))) s })))
 
 unfoldable pub shownOf : List Object → List Shown
 shownOf [] = []
@@ -147,7 +147,7 @@ unfoldable pub completes : Name → ℕ → Expect → List Upload → Room → 
 completes n u x [] r s = no 2 s
 completes n u x (y ∷ ys) r s =
     cond (none (y .parts) || not (gapless 1 (y .parts))) (no 7 s)
-      (puts n (y .key) (joined (y .parts)) x r s) 
+    (puts n (y .key) (joined (y .parts)) x r s)
 
 -- when it was done, the upload is gone
 unfoldable pub unless-no : Name → ℕ → Out → Out
@@ -201,8 +201,8 @@ aged now keeps [] vs = vs
 aged now keeps (x ∷ xs) [] = []
 aged now keeps (x ∷ xs) (v ∷ vs) =
     tidy (cond (due now (x .lasts) (v .at) && not (isRemoved (v .body)) && not (isHeld now v))
-      (cond keeps (record { num = 0; body = Removed; at = now; held = 0 } ∷ v ∷ oldKept now (x .oldLasts) (v .at) vs) (covered now (oldKept now (x .oldLasts) (v .at) vs)))
-      (v ∷ oldKept now (x .oldLasts) (v .at) vs))
+    (cond keeps (record { num = 0; body = Removed; at = now; held = 0 } ∷ v ∷ oldKept now (x .oldLasts) (v .at) vs) (covered now (oldKept now (x .oldLasts) (v .at) vs)))
+    (v ∷ oldKept now (x .oldLasts) (v .at) vs))
 
 unfoldable pub kept : Name → List Version → List Object → List Object
 kept k [] os = os
@@ -230,7 +230,7 @@ ruleOk x = leb (length (x .prefix)) 255 && bytes (x .prefix) && small (x .lasts)
 unfoldable pub acts : Call → State → Out
 acts (MakeRoom n k) s =
     cond (not (nameOk n)) (no 1 s) (cond (some (isRoom n) (s .rooms)) (no 3 s) (cond (leb 256 (length (s .rooms))) (no 8 s)
-      (record { reply = Yes; state = withRooms (s .rooms ++ (record { name = n; keeps = k; rules = []; objects = []; uploads = [] } ∷ [])) s })))
+    (record { reply = Yes; state = withRooms (s .rooms ++ (record { name = n; keeps = k; rules = []; objects = []; uploads = [] } ∷ [])) s })))
 acts (DropRoom n) s = inRoomOr (find (isRoom n) (s .rooms)) (λ (r : Room). cond (none (r .objects) && none (r .uploads)) (record { reply = Yes; state = withRooms (keep (λ (x : Room). not (isRoom n x)) (s .rooms)) s }) (no 5 s)) s
 acts (Put n k bs x) s = cond (not (nameOk k) || ltb 5242880 (length bs) || not (bytes bs)) (no 1 s) (inRoomOr (find (isRoom n) (s .rooms)) (λ (r : Room). puts n k bs x r s) s)
 acts (Get n k num from most) s = cond (ltb 5242880 most) (no 1 s) (inRoomOr (find (isRoom n) (s .rooms)) (λ (r : Room). gets from most (chosen num (at' k r)) s) s)
@@ -240,7 +240,7 @@ acts (Look n p after most) s =
 acts (Versions n k) s = inRoomOr (find (isRoom n) (s .rooms)) (λ (r : Room). record { reply = List' (allShown k (at' k r)); state = s }) s
 acts (Begin n k) s =
     cond (not (nameOk k)) (no 1 s) (inRoomOr (find (isRoom n) (s .rooms)) (λ (r : Room). cond (leb 1024 (length (r .uploads))) (no 8 s)
-      (record { reply = Num (s .next); state = numbered (change (isRoom n) (withUploads (r .uploads ++ (record { num = s .next; key = k; parts = [] } ∷ []))) (s .rooms)) s })) s)
+    (record { reply = Num (s .next); state = numbered (change (isRoom n) (withUploads (r .uploads ++ (record { num = s .next; key = k; parts = [] } ∷ []))) (s .rooms)) s })) s)
 acts (PutPart n u p bs) s = cond (eqb p 0 || ltb 10000 p || ltb 5242880 (length bs) || not (bytes bs)) (no 1 s) (inRoomOr (find (isRoom n) (s .rooms)) (λ (r : Room). partsPut n u p bs (find (isUpload u) (r .uploads)) s) s)
 acts (Complete n u x) s = inRoomOr (find (isRoom n) (s .rooms)) (λ (r : Room). unless-no n u (completes n u x (find (isUpload u) (r .uploads)) r s)) s
 acts (Abort n u) s = inRoomOr (find (isRoom n) (s .rooms)) (λ (r : Room). aborts n u (find (isUpload u) (r .uploads)) s) s

@@ -53,7 +53,7 @@ pub record Same (n m k l : Name) (v w : Version) : Type 0 where
 abbrev pub NumbersTell : Type 0
 NumbersTell =
     (s t : State) → Run blank s → Run s t → (n m k l : Name) (v w : Version) → List·Memᴰ v (versionsIn n k s) → List·Memᴰ w (versionsIn m l t) → 1 ≤ v .num → v .num ≡ w .num →
-      Same n m k l v w
+    Same n m k l v w
 
 -- 2. WHAT IS PUT STAYS. The version is still among these, with at least its hold.
 pub record StillIn (v : Version) (vs : List Version) : Type 0 where
@@ -86,7 +86,7 @@ pub data MayGo (s : State) (n k : Name) (v : Version) : Call → Type 0 where
 abbrev pub Stays : Type 0
 Stays =
     (s : State) (c : Call) → Run blank s → (n k : Name) (v : Version) (bs : List ℕ) → List·Memᴰ v (versionsIn n k s) → v .body ≡ Bytes bs →
-      StillIn v (versionsIn n k (does c s .state)) ⊎ (MayGo s n k v c × T (not (isHeld (does c s .state .now) v)))
+    StillIn v (versionsIn n k (does c s .state)) ⊎ (MayGo s n k v c × T (not (isHeld (does c s .state .now) v)))
 
 -- 3. WHAT IS HELD STAYS, whatever is called and whatever rules there are, until its time: with its bytes, in its room, and at least its hold.
 abbrev pub HeldStays : Type 0
@@ -106,7 +106,7 @@ risingShown (x ∷ y ∷ ys) = less (x .key) (y .key) && risingShown (y ∷ ys)
 -- what a list should show: a key of the room that begins so and comes after, with the number and the length of its latest version, which has bytes
 pub data InRoom (r : Room) (prefix after : Name) : Shown → Type 0 where
   shown : (o : Object) (v : Version) (vs : List Version) → List·Memᴰ o (r .objects) → o .versions ≡ v ∷ vs → (bs : List ℕ) → v .body ≡ Bytes bs → T (begins prefix (o .key)) → T (less after (o .key)) →
-    InRoom r prefix after (record { key = o .key; num = v .num; size = length bs })
+      InRoom r prefix after (record { key = o .key; num = v .num; size = length bs })
 
 pub record Exact (r : Room) (prefix after : Name) (most : ℕ) (xs : List Shown) : Type 0 where
   pub keys-rise : T (risingKeys (r .objects))

@@ -1,4 +1,4 @@
-use Rattle.meaning.proofs.Weighs.{full-only}
+use Rattle.meaning.proofs.Grown.{full-only}
 use Rattle.meaning.proofs.full_only.Needs as need
 
 pub returns : need.returns

@@ -1,4 +1,4 @@
-use Rattle.meaning.proofs.Weighs.{weight-grows}
+use Rattle.meaning.proofs.Grown.{weight-grows}
 use Rattle.meaning.proofs.weight_grows.Needs as need
 
 pub returns : need.returns
