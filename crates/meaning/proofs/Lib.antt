@@ -7,3 +7,4 @@ pub mod Heaps
 pub mod Uploads
 pub mod Moves
 pub mod Bounds
+pub mod Tells
