@@ -12,3 +12,4 @@ pub mod Heaps
 pub mod Uploads
 pub mod Moves
 pub mod Bounds
+pub mod Tells
