@@ -8,14 +8,14 @@ use Prim.Native.Nat.{ℕ, suc, _<_, _≤_, _+_}
 use native.Mathlib.Omega.{arith}
 use lib.Dec.{T, ltb}
 use lib.ListN.{length, length-append, length-map}
-use Rattle.std.proofs.shelf.Tests.{cond-both, ltb-true, ltb-false, or-parts, true≢false, false≢true}
+use Rattle.std.proofs.shelf.Tests.{cond-both, ltb-true, true≢false, false≢true}
 use Rattle.meaning.specs.Lists.{Name, some, every, keep, find, change, none, same}
 use Rattle.meaning.specs.Rooms.{Body, Bytes, Removed, Version, Object, Upload, Rule, Room, State, blank, Call, Reply, Out}
 use Rattle.meaning.specs.Does.{does, isRoom, isObject, isNum, isHeld, versionsOf, at', setObject, withObjects, withUploads, current, joined, isUpload, ruleFor, aged, agedRoom, agedObjects, later, ticked, small, nameOk, ruleOk, bytes}
 use Rattle.meaning.specs.Laws.{Run, still, onward, fell, versionsIn, keepsOf, VersionFits, ObjectFits, UploadFits, RoomFits, Fits, StaysInBounds}
 use Rattle.meaning.proofs.Good.{Pairs, Apart, Before, Over, RoomGood, Once, Good}
 use Rattle.meaning.proofs.Names.{so, same-eq, same-from}
-use Rattle.meaning.proofs.Finds.{Found, found, found-or-none, kept-was, keep-pairs, keep-length, changed-was, change-pairs, change-length, pairs-pushed, mapped-pairs}
+use Rattle.meaning.proofs.Finds.{Found, found, found-or-none, kept-was, keep-pairs, keep-length, changed-was, change-pairs, change-length, pairs-pushed, mapped-pairs, not-some}
 use Rattle.meaning.proofs.Objects.{under, set-was, set-pairs, aged-was, aged-pairs}
 use Rattle.meaning.proofs.Steps.{fresh, others, Writes, by-put, by-remove, by-complete, Sets, new, gone, fewer, longer, Within, sets, begun, parted, aborted, ruled, Step, stands, made, dropped, told, within, emptyRoom, without, steps}
 use Rattle.meaning.proofs.Heaps.{Heap, heap-none, heap-later, heap-keep, heap-longer, heap-on-top, heap-aged}
@@ -208,15 +208,6 @@ good-house h o =
       rooms-apart = h .rooms-apart;
       rooms-good = λ r m. room-good (h .rooms-ok r m);
       once = o }
-
-not-some : {A : Type 0} (f : A → Bool) (xs : List A) → some f xs ≡ false → (x : A) → List·Memᴰ x xs → f x ≡ false
-unfolding some
-not-some f [] e x m = absurd (List·Memᴰ·not-nil m)
-not-some {A} f (y ∷ xs) e x m = go (not-some f xs) (List·Memᴰ·cases-cons m)
-  where
-    go : (some f xs ≡ false → (z : A) → List·Memᴰ z xs → f z ≡ false) → (x ≡ y) ⊎ List·Memᴰ x xs → f x ≡ false
-    go below (inl d) = rw d (or-parts (f y) (some f xs) e .0)
-    go below (inr m) = below (or-parts (f y) (some f xs) e .1) x m
 
 pub later-now : (t now : ℕ) → now ≤ later t now
 later-now t now = cond-both (ltb now t) t now (λ x. now ≤ x) (λ e. omega (arith, ltb-true now t e)) (λ _. omega arith)

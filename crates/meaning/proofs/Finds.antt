@@ -7,8 +7,7 @@ use mathlib.Core.Logic.{_⊎_, inl, inr}
 use Prim.Native.Nat.{ℕ, suc, _<_, _≤_, _+_}
 use native.Mathlib.Omega.{arith}
 use lib.ListN.{length}
-use lib.Dec.{T}
-use Rattle.std.proofs.shelf.Tests.{both-ways, cond-both, false≢true, true≢false}
+use Rattle.std.proofs.shelf.Tests.{both-ways, cond-both, or-parts}
 use Rattle.meaning.specs.Lists.{some, every, keep, find, change}
 use Rattle.meaning.proofs.Good.{Pairs}
 
@@ -49,6 +48,15 @@ module _ {A : Type 0} (f : A → Bool) where
       go true p below m = absurd (let h : y ∷ [] ≡ [] = rw p at e in let z : _≡_ {A = ℕ} 0 1 = cc in omega arith)
       go false p below (inl q) = rw q p
       go false p below (inr m) = below (rw p at e) x m
+
+  pub not-some : (xs : List A) → some f xs ≡ false → (x : A) → List·Memᴰ x xs → f x ≡ false
+  unfolding some
+  not-some [] e x m = absurd (List·Memᴰ·not-nil m)
+  not-some (y ∷ xs) e x m = go (not-some xs) (List·Memᴰ·cases-cons m)
+    where
+      go : (some f xs ≡ false → (z : A) → List·Memᴰ z xs → f z ≡ false) → (x ≡ y) ⊎ List·Memᴰ x xs → f x ≡ false
+      go below (inl d) = rw d (or-parts (f y) (some f xs) e .0)
+      go below (inr m) = below (or-parts (f y) (some f xs) e .1) x m
 
   pub kept-was : (xs : List A) (x : A) → List·Memᴰ x (keep f xs) → Found f xs x
   unfolding keep

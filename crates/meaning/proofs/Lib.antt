@@ -13,3 +13,4 @@ pub mod Uploads
 pub mod Moves
 pub mod Bounds
 pub mod Tells
+pub mod Stays

@@ -19,16 +19,16 @@ use Rattle.meaning.proofs.Objects.{found-set, found-elsewhere, found-aged, age
 use Rattle.meaning.proofs.Steps.{Silent, fresh, holdTo, Writes, Sets, new, gone, fewer, longer, Within, Step, stands, made, dropped, told, within, sets, begun, parted, aborted, ruled, emptyRoom, without}
 use Rattle.meaning.proofs.Heaps.{aged-was-or-mark, higher-left}
 
--- room and key: the one place where versions may be set
-pub data Moves (s : State) (room key : Name) (n k : Name) : Call → List Version → Type 0 where
-  stay : {c : Call} → Moves s room key n k c (versionsIn n k s)
-  set : {c : Call} {reply : Reply} {next : ℕ} {us : List Upload} {vs : List Version} (r : Room) → n ≡ room → k ≡ key → find (isRoom n) (s .rooms) ≡ r ∷ [] → Sets s n r k c reply next us vs → Moves s room key n k c vs
-  ages : (t : ℕ) (r : Room) → find (isRoom n) (s .rooms) ≡ r ∷ [] → Moves s room key n k (Tick t) (aged (later t (s .now)) (r .keeps) (ruleFor k (r .rules)) (at' k r))
+-- now: the time after the call; room and key: the one place where versions may be set
+pub data Moves (s : State) (now : ℕ) (room key n k : Name) : Call → List Version → Type 0 where
+  stay : {c : Call} → Moves s now room key n k c (versionsIn n k s)
+  set : {c : Call} {reply : Reply} {next : ℕ} {us : List Upload} {vs : List Version} (r : Room) → now ≡ s .now → n ≡ room → k ≡ key → find (isRoom n) (s .rooms) ≡ r ∷ [] → Sets s n r k c reply next us vs → Moves s now room key n k c vs
+  ages : (t : ℕ) (r : Room) → now ≡ later t (s .now) → find (isRoom n) (s .rooms) ≡ r ∷ [] → Moves s now room key n k (Tick t) (aged (later t (s .now)) (r .keeps) (ruleFor k (r .rules)) (at' k r))
 
 pub record Spot (s : State) (c : Call) (o : Out) : Type 0 where
   pub room : Name
   pub key : Name
-  pub moves : (n k : Name) → Moves s room key n k c (versionsIn n k (o .state))
+  pub moves : (n k : Name) → Moves s (o .state .now) room key n k c (versionsIn n k (o .state))
 
 pub versions-found : (n k : Name) (s : State) (r : Room) → find (isRoom n) (s .rooms) ≡ r ∷ [] → versionsIn n k s ≡ at' k r
 versions-found n k s r e = rw e refl
@@ -39,8 +39,8 @@ versions-none n k s e = rw e refl
 versions-same : (n k : Name) (s t : State) → find (isRoom n) (t .rooms) ≡ find (isRoom n) (s .rooms) → versionsIn n k t ≡ versionsIn n k s
 versions-same n k s t e = rw e refl
 
-unmoved : {s : State} {room key n k : Name} {c : Call} {vs : List Version} → vs ≡ versionsIn n k s → Moves s room key n k c vs
-unmoved {s} {room} {key} {n} {k} {c} e = subst (Moves s room key n k c) (sym e) stay
+unmoved : {s : State} {now : ℕ} {room key n k : Name} {c : Call} {vs : List Version} → vs ≡ versionsIn n k s → Moves s now room key n k c vs
+unmoved {s} {now} {room} {key} {n} {k} {c} e = subst (Moves s now room key n k c) (sym e) stay
 
 nowhere : {s : State} {c : Call} {o : Out} → ((n k : Name) → versionsIn n k (o .state) ≡ versionsIn n k s) → Spot s c o
 nowhere h = record { room = []; key = []; moves = λ n k. unmoved (h n k) }
@@ -71,7 +71,7 @@ dropped-moves s n r e none m l = go (same m n) refl
     go true d = versions-none m l t (gone (same-eq m n d)) ∙ sym empty ∙ sym (versions-found m l s r (rw (same-eq m n d) e))
     go false d = versions-same m l s t (find-kept other (isRoom m) (λ x i. not-from-false (isRoom n x) (same-unlike n (x .name) (λ y. same-not m n d (same-eq m (x .name) i ∙ sym y)))) (s .rooms))
 
-told-moves : (s : State) (t : ℕ) → Good s → (n k : Name) → Moves s [] [] n k (Tick t) (versionsIn n k (ticked (later t (s .now)) s))
+told-moves : (s : State) (t : ℕ) → Good s → (n k : Name) → Moves s (later t (s .now)) [] [] n k (Tick t) (versionsIn n k (ticked (later t (s .now)) s))
 told-moves s t g n k = go (found-or-none (isRoom n) (s .rooms))
   where
     now : ℕ
@@ -80,9 +80,9 @@ told-moves s t g n k = go (found-or-none (isRoom n) (s .rooms))
     mapped = find-mapped (isRoom n) (agedRoom now) (λ _. refl) (s .rooms)
     left : (r : Room) → find (isRoom n) (s .rooms) ≡ r ∷ [] → versionsIn n k (ticked now s) ≡ aged now (r .keeps) (ruleFor k (r .rules)) (at' k r)
     left r e = versions-found n k (ticked now s) (agedRoom now r) (mapped ∙ ap (map (agedRoom now)) e) ∙ found-aged now r k (r .objects) (g .rooms-good r (found (isRoom n) (s .rooms) r [] e .there) .keys-rise)
-    go : (find (isRoom n) (s .rooms) ≡ []) ⊎ ((r : Room) × (find (isRoom n) (s .rooms) ≡ r ∷ [])) → Moves s [] [] n k (Tick t) (versionsIn n k (ticked now s))
+    go : (find (isRoom n) (s .rooms) ≡ []) ⊎ ((r : Room) × (find (isRoom n) (s .rooms) ≡ r ∷ [])) → Moves s now [] [] n k (Tick t) (versionsIn n k (ticked now s))
     go (inl e) = unmoved (versions-none n k (ticked now s) (mapped ∙ ap (map (agedRoom now)) e) ∙ sym (versions-none n k s e))
-    go (inr h) = rw (left (h .0) (h .1)) (ages t (h .0) (h .1))
+    go (inr h) = rw (left (h .0) (h .1)) (ages t (h .0) refl (h .1))
 
 -- a room in the place of the one of its name
 replaced : State → ℕ → Name → Room → State
@@ -109,22 +109,23 @@ module _ (s : State) (n : Name) (r q : Room) (e : find (isRoom n) (s .rooms) ≡
       go false d = replaced-elsewhere m k (same-not m n d)
 
 set-moves : {c : Call} {reply : Reply} {next : ℕ} {us : List Upload} {vs : List Version} (s : State) (n : Name) (r : Room) (k : Name) → Pairs Before (r .objects) → find (isRoom n) (s .rooms) ≡ r ∷ [] → Sets s n r k c reply next us vs →
-    (m l : Name) → Moves s n k m l c (versionsIn m l (replaced s next n (withUploads us (withObjects (setObject k vs (r .objects)) r))))
+    (m l : Name) → Moves s (s .now) n k m l c (versionsIn m l (replaced s next n (withUploads us (withObjects (setObject k vs (r .objects)) r))))
 set-moves {c} {next} {us} {vs} s n r k rise e h m l = go (same m n) (same l k) refl refl
   where
     q : Room
     q = withUploads us (withObjects (setObject k vs (r .objects)) r)
-    go : (a b : Bool) → same m n ≡ a → same l k ≡ b → Moves s n k m l c (versionsIn m l (replaced s next n q))
-    go true true i j = rw (same-eq m n i, same-eq l k j, replaced-here s n r q e refl next k, found-set k vs (r .objects) rise) (set r refl refl e h)
+    go : (a b : Bool) → same m n ≡ a → same l k ≡ b → Moves s (s .now) n k m l c (versionsIn m l (replaced s next n q))
+    go true true i j = rw (same-eq m n i, same-eq l k j, replaced-here s n r q e refl next k, found-set k vs (r .objects) rise) (set r refl refl refl e h)
     go true false i j = unmoved (rw (same-eq m n i) (replaced-here s n r q e refl next l ∙ ap versionsOf (found-elsewhere k l vs (r .objects) (same-not l k j)) ∙ sym (versions-found n l s r e)))
     go false b i j = unmoved (replaced-elsewhere s n r q e refl next m l (same-not m n i))
 
 within-moves : (s : State) (n : Name) (r : Room) {c : Call} {reply : Reply} {next : ℕ} (q : Room) → Good s → find (isRoom n) (s .rooms) ≡ r ∷ [] → Within s n r c reply next q → Spot s c (record { reply = reply; state = replaced s next n q })
+unfolding replaced
 within-moves s n r q g e (sets k h) = record { room = n; key = k; moves = set-moves s n r k (g .rooms-good r (found (isRoom n) (s .rooms) r [] e .there) .keys-rise) e h }
-within-moves s n r q g e (begun k ok few) = nowhere (replaced-same s n r _ e refl _ refl)
-within-moves s n r q g e (parted u p bs a b l ok) = nowhere (replaced-same s n r _ e refl _ refl)
-within-moves s n r q g e (aborted u) = nowhere (replaced-same s n r _ e refl _ refl)
-within-moves s n r q g e (ruled rs few ok) = nowhere (replaced-same s n r _ e refl _ refl)
+within-moves s n r q g e (begun k ok few) = nowhere (replaced-same s n r _ e refl (s .next + 1) refl)
+within-moves s n r q g e (parted u p bs a b l ok) = nowhere (replaced-same s n r _ e refl (s .next) refl)
+within-moves s n r q g e (aborted u) = nowhere (replaced-same s n r _ e refl (s .next) refl)
+within-moves s n r q g e (ruled rs few ok) = nowhere (replaced-same s n r _ e refl (s .next) refl)
 
 pub moves : (s : State) {c : Call} {o : Out} → Good s → Step s c o → Spot s c o
 unfolding replaced
@@ -156,9 +157,9 @@ pub below-was : (now : ℕ) (keeps : Bool) (vs : List Version) (w : Version) →
 below-was now true vs w m = m
 below-was now false vs w m = kept-was (isHeld now) vs w m .there
 
-pub origin : (s : State) (room key n k : Name) {c : Call} {vs : List Version} → Moves s room key n k c vs → (w : Version) → List·Memᴰ w vs → Origin s room key n k w
+pub origin : (s : State) (room key n k : Name) {now : ℕ} {c : Call} {vs : List Version} → Moves s now room key n k c vs → (w : Version) → List·Memᴰ w vs → Origin s room key n k w
 origin s room key n k stay w m = was w m (like-itself w)
-origin s room key n k (set r i j e h) w m = go h m
+origin s room key n k (set r _ i j e h) w m = go h m
   where
     there : (v : Version) → List·Memᴰ v (at' k r) → Like v w → Origin s room key n k w
     there v m l = was v (rw (versions-found n k s r e) m) l
@@ -173,7 +174,7 @@ origin s room key n k (set r i j e h) w m = go h m
     go (gone a b) m = absurd (List·Memᴰ·not-nil m)
     go (fewer num v z d f) m = there w (kept-was (λ (u : Version). not (isNum (v .num) u)) (at' k r) w m .there) (like-itself w)
     go (longer num until v t d f) m = held num until (changed-was (isNum num) (holdTo until) (at' k r) w m)
-origin s room key n k (ages t r e) w m = go (aged-was-or-mark (later t (s .now)) (r .keeps) (ruleFor k (r .rules)) (at' k r) w m)
+origin s room key n k (ages t r _ e) w m = go (aged-was-or-mark (later t (s .now)) (r .keeps) (ruleFor k (r .rules)) (at' k r) w m)
   where
     go : List·Memᴰ w (at' k r) ⊎ (w .num ≡ 0) → Origin s room key n k w
     go (inl m) = was w (rw (versions-found n k s r e) m) (like-itself w)
