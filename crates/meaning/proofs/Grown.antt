@@ -59,11 +59,13 @@ unfolding kept objectsWeight
 kept-lighter k [] os = omega arith
 kept-lighter k (v ∷ vs) os = omega arith
 
-agedObjects-lighter : (now : ℕ) (r : Room) (os : List Object) → ((o : Object) → List·Memᴰ o os → (v : Version) → List·Memᴰ v (o .versions) → Plain v) → objectsWeight (agedObjects now r os) ≤ objectsWeight os
+agedObjects-lighter : (now : ℕ) (r : Room) (os : List Object) → ((o : Object) → List·Memᴰ o os → (v : Version) → List·Memᴰ v (o .versions) → Plain v) →
+    objectsWeight (agedObjects now r os) ≤ objectsWeight os
 unfolding agedObjects objectsWeight
 agedObjects-lighter now r [] p = omega arith
 agedObjects-lighter now r (o ∷ os) p =
-    omega (arith, kept-lighter (o .key) left (agedObjects now r os), aged-lighter now (r .keeps) (ruleFor (o .key) (r .rules)) (o .versions) (p o (List·Memᴰ·head refl)), agedObjects-lighter now r os (λ q m. p q (List·Memᴰ·tail m)))
+    let below = agedObjects-lighter now r os (λ q m. p q (List·Memᴰ·tail m)) in
+    omega (arith, below, kept-lighter (o .key) left (agedObjects now r os), aged-lighter now (r .keeps) (ruleFor (o .key) (r .rules)) (o .versions) (p o (List·Memᴰ·head refl)))
   where
     left : List Version
     left = aged now (r .keeps) (ruleFor (o .key) (r .rules)) (o .versions)
@@ -120,7 +122,8 @@ rooms-changed n r q (x ∷ rs) e = go (isRoom n x) e (rooms-changed n r q rs)
 without-lighter : (n : Name) (rs : List Room) → roomsWeight (without n rs) ≤ roomsWeight rs
 unfolding keep roomsWeight
 without-lighter n [] = omega arith
-without-lighter n (x ∷ rs) = cond-both (not (isRoom n x)) (x ∷ without n rs) (without n rs) (λ ys. roomsWeight ys ≤ roomsWeight (x ∷ rs)) (λ e. omega (arith, without-lighter n rs)) (λ e. omega (arith, without-lighter n rs))
+without-lighter n (x ∷ rs) =
+    cond-both (not (isRoom n x)) (x ∷ without n rs) (without n rs) (λ ys. roomsWeight ys ≤ roomsWeight (x ∷ rs)) (λ e. omega (arith, without-lighter n rs)) (λ e. omega (arith, without-lighter n rs))
 
 told-lighter : (now : ℕ) (rs : List Room) → ((r : Room) → List·Memᴰ r rs → Sound r) → roomsWeight (map (agedRoom now) rs) ≤ roomsWeight rs
 unfolding roomsWeight
@@ -130,7 +133,8 @@ told-lighter now (r ∷ rs) p = omega (arith, agedObjects-lighter now r (r .obje
 -- CALLS
 
 -- the versions of a thing that is there, by as many or fewer
-thinner-set : (r : Room) → Sound r → (k : Name) (ws : List Version) → none (at' k r) ≡ false → versionsWeight ws ≤ versionsWeight (at' k r) → objectsWeight (setObject k ws (r .objects)) ≤ objectsWeight (r .objects)
+thinner-set : (r : Room) → Sound r → (k : Name) (ws : List Version) → none (at' k r) ≡ false → versionsWeight ws ≤ versionsWeight (at' k r) →
+    objectsWeight (setObject k ws (r .objects)) ≤ objectsWeight (r .objects)
 thinner-set r p k [] e h = setObject-none k (r .objects)
 thinner-set r p k (w ∷ ws) e h = omega (arith, rw e at (setObject-weighs k w ws (r .objects) (p .keys-rise)))
 
@@ -172,7 +176,10 @@ sets-grows {n = n} {k = k} (new b (by-remove there) few) p f = inr (removing-the
 sets-grows {s = s} {r = r} {k = k} (new b (by-complete u x y d e) few) p f = inl (complete-lighter s r p k u y d (f u x y refl d))
 sets-grows {n = n} {k = k} (gone a b) p f = inr (removing-the-latest n k)
 sets-grows {r = r} {k = k} (fewer num v z d h) p f =
-    inl (omega (arith, thinner-set r p k (keep (λ (w : Version). not (isNum (v .num) w)) (at' k r)) (some-there (isNum num) (at' k r) v d) (lighter (keep-thinned (λ (w : Version). not (isNum (v .num) w)) (at' k r)) (plain-at r p k))))
+    inl (omega (arith, thinner-set r p k (keep others-than (at' k r)) (some-there (isNum num) (at' k r) v d) (lighter (keep-thinned others-than (at' k r)) (plain-at r p k))))
+  where
+    others-than : Version → Bool
+    others-than w = not (isNum (v .num) w)
 sets-grows {r = r} {k = k} (longer num until v small d h) p f =
     inl (omega (arith, thinner-set r p k (change (isNum num) (holdTo until) (at' k r)) (some-there (isNum num) (at' k r) v d) (omega (arith, held-weighs num until (at' k r)))))
 
@@ -184,7 +191,8 @@ within-grows {r = r} (aborted u) p f = inl (omega (arith, others-lighter u (r .u
 within-grows (ruled rs few ok) p f = inl (omega arith)
 
 -- an upload without parts isn't completed
-empty-refused : (s : State) (n : Name) (r : Room) (u : ℕ) (x : Expect) (y : Upload) → find (isRoom n) (s .rooms) ≡ r ∷ [] → find (isUpload u) (r .uploads) ≡ y ∷ [] → none (y .parts) ≡ true → does (Complete n u x) s .state ≡ s
+empty-refused : (s : State) (n : Name) (r : Room) (u : ℕ) (x : Expect) (y : Upload) → find (isRoom n) (s .rooms) ≡ r ∷ [] → find (isUpload u) (r .uploads) ≡ y ∷ [] → none (y .parts) ≡ true →
+    does (Complete n u x) s .state ≡ s
 unfolding acts inRoomOr completes unless-no
 empty-refused s n r u x y e d h =
     cond-both (eqb (s .now) 0 && not (isTick (Complete n u x))) (no 10 s) _ (λ o. o .state ≡ s) (λ _. refl)

@@ -74,7 +74,8 @@ listed : (p a : Name) (os : List Object) (o : Object) (v : Version) (vs : List V
     List·Memᴰ (line o v bs) (shownOf (keep (asked p a) os))
 unfolding keep
 listed p a [] o v vs bs m e f g = elim m [ ]
-listed p a (q ∷ os) o v vs bs (List·Memᴰ·head i) e f g = subst (λ (q : Object). List·Memᴰ (line o v bs) (shownOf (keep (asked p a) (q ∷ os)))) i (rw (g, shown-line o (keep (asked p a) os) v vs bs e f) (List·Memᴰ·head refl))
+listed p a (q ∷ os) o v vs bs (List·Memᴰ·head i) e f g =
+    subst (λ (q : Object). List·Memᴰ (line o v bs) (shownOf (keep (asked p a) (q ∷ os)))) i (rw (g, shown-line o (keep (asked p a) os) v vs bs e f) (List·Memᴰ·head refl))
 listed p a (q ∷ os) o v vs bs (List·Memᴰ·tail m) e f g =
     elim (asked p a q) as (λ b. List·Memᴰ (line o v bs) (shownOf (cond b (q ∷ keep (asked p a) os) (keep (asked p a) os)))) [
       | true ↦ past (shownOf (q ∷ keep (asked p a) os)) (shows q (keep (asked p a) os)) (listed p a os o v vs bs m e f g)
@@ -196,7 +197,8 @@ exact r p a most rise =
     rises = shown-rises p a (r .objects) rise
 
 -- as keys rise in a room, a list of it is exact
-look-exact : (s : State) (n p a : Name) (most : ℕ) (r : Room) (xs : List Shown) → find (isRoom n) (s .rooms) ≡ r ∷ [] → Pairs Before (r .objects) → does (Look n p a most) s .reply ≡ List' xs → Exact r p a most xs
+look-exact : (s : State) (n p a : Name) (most : ℕ) (r : Room) (xs : List Shown) → find (isRoom n) (s .rooms) ≡ r ∷ [] → Pairs Before (r .objects) → does (Look n p a most) s .reply ≡ List' xs →
+    Exact r p a most xs
 look-exact s n p a most r xs e rise f = subst (Exact r p a most) (sym (look-answers s n p a most r xs e f)) (exact r p a most rise)
 
 pub list-exact : ListExact

@@ -177,15 +177,21 @@ unfolding aged
 aged-lighter now keeps [] vs p = omega arith
 aged-lighter now keeps (x ∷ xs) [] p = omega arith
 aged-lighter now keeps (x ∷ xs) (v ∷ vs) p =
-    cond-both (due now (x .lasts) (v .at) && not (isRemoved (v .body)) && not (isHeld now v)) (cond keeps (mark now ∷ v ∷ older) (covered now older)) (v ∷ older) (λ ws. versionsWeight (tidy ws) ≤ versionsWeight (v ∷ vs))
+    cond-both taken (cond keeps (mark now ∷ v ∷ older) (covered now older)) (v ∷ older) (λ ws. versionsWeight (tidy ws) ≤ versionsWeight (v ∷ vs))
     (λ e. let n : 1 ≤ v .num = bytes-numbered v (p v (List·Memᴰ·head refl)) (has-bytes e) in marked n keeps)
     (λ e. omega (arith, tidy-lighter (v ∷ older), below))
   where
     older : List Version
     older = oldKept now (x .oldLasts) (v .at) vs
 
-    has-bytes : (due now (x .lasts) (v .at) && not (isRemoved (v .body)) && not (isHeld now v)) ≡ true → isRemoved (v .body) ≡ false
-    has-bytes e = not-true (isRemoved (v .body)) (and-parts (due now (x .lasts) (v .at)) (not (isRemoved (v .body))) (and-parts (due now (x .lasts) (v .at) && not (isRemoved (v .body))) (not (isHeld now v)) e .0) .1)
+    lasted : Bool
+    lasted = due now (x .lasts) (v .at)
+
+    taken : Bool
+    taken = lasted && not (isRemoved (v .body)) && not (isHeld now v)
+
+    has-bytes : taken ≡ true → isRemoved (v .body) ≡ false
+    has-bytes e = not-true (isRemoved (v .body)) (and-parts lasted (not (isRemoved (v .body))) (and-parts (lasted && not (isRemoved (v .body))) (not (isHeld now v)) e .0) .1)
 
     below : versionsWeight (v ∷ older) ≤ versionsWeight (v ∷ vs)
     below = lighter (stays (oldKept-thinned now (x .oldLasts) (v .at) vs)) p
