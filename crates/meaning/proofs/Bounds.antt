@@ -45,7 +45,8 @@ room-ok f g =
       rules-fit = f .rules-fit;
       uploads-ok = record { few = f .few-uploads; each-fits = f .uploads-fit; rise = g .uploads-rise; parts-rise = g .parts-rise };
       keys-rise = g .keys-rise;
-      objects-ok = λ o m. let h = f .objects-fit o m in record { key-fits = h .key-fits; some-version = h .some-version; heap = record { few = h .few; rules-mark = h .rules-mark; each-fits = h .each-fits; stacked = g .stacked o m } } }
+      objects-ok = λ o m. let h = f .objects-fit o m in record { key-fits = h .key-fits; some-version = h .some-version; heap = record { few = h .few; rules-mark = h .rules-mark; each-fits = h .each-fits; stacked = g .stacked o m } };
+    }
 
 room-fits : {now next : ℕ} {r : Room} → RoomOk now next r → RoomFits now next r
 room-fits k =
@@ -55,7 +56,8 @@ room-fits k =
       rules-fit = k .rules-fit;
       few-uploads = k .uploads-ok .few;
       uploads-fit = k .uploads-ok .each-fits;
-      objects-fit = λ o m. let h = k .objects-ok o m in record { key-fits = h .key-fits; some-version = h .some-version; few = h .heap .few; rules-mark = h .heap .rules-mark; each-fits = h .heap .each-fits } }
+      objects-fit = λ o m. let h = k .objects-ok o m in record { key-fits = h .key-fits; some-version = h .some-version; few = h .heap .few; rules-mark = h .heap .rules-mark; each-fits = h .heap .each-fits };
+    }
 
 room-good : {now next : ℕ} {r : Room} → RoomOk now next r → RoomGood r
 room-good k = record { keys-rise = k .keys-rise; stacked = λ o m. k .objects-ok o m .heap .stacked; uploads-rise = k .uploads-ok .rise; parts-rise = k .uploads-ok .parts-rise }
@@ -98,7 +100,8 @@ set-ok {now} {next} {next′} r k vs us p ok h name ups =
       rules-fit = ok .rules-fit;
       uploads-ok = ups;
       keys-rise = set-pairs k vs (r .objects) (ok .keys-rise);
-      objects-ok = λ o m. each o (set-was k vs (r .objects) o m) }
+      objects-ok = λ o m. each o (set-was k vs (r .objects) o m);
+    }
   where
     each : (o : Object) → ((o ≡ under k vs) × ((v : Version) × (ws : List Version) × (vs ≡ v ∷ ws))) ⊎ List·Memᴰ o (r .objects) → ObjectOk now next′ (r .keeps) o
     each o (inl t) = rw (t .0) (record { key-fits = name (t .1 .0) (t .1 .1) (t .1 .2); some-version = longer-than-none vs (t .1 .0) (t .1 .1) (t .1 .2); heap = h })
@@ -132,7 +135,8 @@ written s n r k p ok (by-complete u x y e d) =
     record {
       key-fits = rw (← d) (f .key-fits);
       body-fits = fresh-fits s (Bytes (joined (y .parts))) p (λ cs e. let d : cs ≡ joined (y .parts) = cc in rw d (joined-bytes (y .parts) (f .each-fits), omega (arith, joined-length (y .parts) (f .each-fits), f .few)));
-      uploads-ok = ups-later (omega arith) (ups-others u (r .uploads) (ok .uploads-ok)) }
+      uploads-ok = ups-later (omega arith) (ups-others u (r .uploads) (ok .uploads-ok));
+    }
 
 pub record RoomStep (s : State) (r : Room) (next : ℕ) (q : Room) : Type 0 where
   pub named : q .name ≡ r .name
@@ -160,7 +164,8 @@ within-ok s n r p ok (ruled rs few fit) =
       named = refl;
       no-less = omega arith;
       one-more = omega arith;
-      ok = record { name-fits = ok .name-fits; few-rules = few; rules-fit = fit; uploads-ok = ok .uploads-ok; keys-rise = ok .keys-rise; objects-ok = ok .objects-ok } }
+      ok = record { name-fits = ok .name-fits; few-rules = few; rules-fit = fit; uploads-ok = ok .uploads-ok; keys-rise = ok .keys-rise; objects-ok = ok .objects-ok };
+    }
 
 aged-ok : {now now′ next : ℕ} (r : Room) → now ≤ now′ → 1 ≤ next → RoomOk now next r → RoomOk now′ next (agedRoom now′ r)
 aged-ok {now} {now′} {next} r p one ok =
@@ -170,7 +175,8 @@ aged-ok {now} {now′} {next} r p one ok =
       rules-fit = ok .rules-fit;
       uploads-ok = ok .uploads-ok;
       keys-rise = aged-pairs now′ r (r .objects) (ok .keys-rise);
-      objects-ok = each }
+      objects-ok = each;
+    }
   where
     each : (o : Object) → List·Memᴰ o (agedObjects now′ r (r .objects)) → ObjectOk now′ next (r .keeps) o
     each o m =
@@ -179,7 +185,8 @@ aged-ok {now} {now′} {next} r p one ok =
         record {
           key-fits = rw key (h .key-fits);
           some-version = longer-than-none (o .versions) v vs e;
-          heap = rw left (heap-aged (r .keeps) (ruleFor (o₀ .key) (r .rules)) (o₀ .versions) one (heap-later p (omega arith) (h .heap))) }
+          heap = rw left (heap-aged (r .keeps) (ruleFor (o₀ .key) (r .rules)) (o₀ .versions) one (heap-later p (omega arith) (h .heap)));
+        }
 
 -- THE HOUSE
 
@@ -199,7 +206,8 @@ house g =
       next-from-one = g .fits .next-from-one;
       next-bounded = g .fits .next-bounded;
       rooms-apart = g .rooms-apart;
-      rooms-ok = λ r m. room-ok (g .fits .rooms-fit r m) (g .rooms-good r m) }
+      rooms-ok = λ r m. room-ok (g .fits .rooms-fit r m) (g .rooms-good r m);
+    }
 
 good-house : {s : State} → House s → Once s → Good s
 good-house h o =
@@ -207,7 +215,8 @@ good-house h o =
       fits = record { few-rooms = h .few-rooms; now-small = h .now-small; next-from-one = h .next-from-one; next-bounded = h .next-bounded; rooms-fit = λ r m. room-fits (h .rooms-ok r m) };
       rooms-apart = h .rooms-apart;
       rooms-good = λ r m. room-good (h .rooms-ok r m);
-      once = o }
+      once = o;
+    }
 
 pub later-now : (t now : ℕ) → now ≤ later t now
 later-now t now = cond-both (ltb now t) t now (λ x. now ≤ x) (λ e. omega (arith, ltb-true now t e)) (λ _. omega arith)
@@ -224,7 +233,8 @@ made-house s n keeps name free few h =
       next-from-one = h .next-from-one;
       next-bounded = h .next-bounded;
       rooms-apart = pairs-pushed Apart (emptyRoom n keeps) (s .rooms) (h .rooms-apart) (λ r m e. false≢true (sym (not-some (isRoom n) (s .rooms) free r m) ∙ same-from n (r .name) (sym e)));
-      rooms-ok = λ r m. elim (List·Memᴰ·append-cases (s .rooms) m) [ inl i ↦ h .rooms-ok r i | inr i ↦ rw (List·Memᴰ·eq-of-singleton i) empty ] }
+      rooms-ok = λ r m. elim (List·Memᴰ·append-cases (s .rooms) m) [ inl i ↦ h .rooms-ok r i | inr i ↦ rw (List·Memᴰ·eq-of-singleton i) empty ];
+    }
   where
     empty : RoomOk (s .now) (s .next) (emptyRoom n keeps)
     empty =
@@ -234,7 +244,8 @@ made-house s n keeps name free few h =
           rules-fit = tt;
           uploads-ok = record { few = omega arith; each-fits = λ u m. absurd (List·Memᴰ·not-nil m); rise = tt; parts-rise = λ u m. absurd (List·Memᴰ·not-nil m) };
           keys-rise = tt;
-          objects-ok = λ o m. absurd (List·Memᴰ·not-nil m) }
+          objects-ok = λ o m. absurd (List·Memᴰ·not-nil m);
+        }
 
 dropped-house : (s : State) (n : Name) → House s → House (record { now = s .now; next = s .next; rooms = without n (s .rooms) })
 dropped-house s n h =
@@ -245,7 +256,8 @@ dropped-house s n h =
       next-from-one = h .next-from-one;
       next-bounded = h .next-bounded;
       rooms-apart = keep-pairs other Apart (s .rooms) (h .rooms-apart);
-      rooms-ok = λ r m. h .rooms-ok r (kept-was other (s .rooms) r m .there) }
+      rooms-ok = λ r m. h .rooms-ok r (kept-was other (s .rooms) r m .there);
+    }
 
 told-house : (s : State) (t : ℕ) → T (small t) → House s → House (ticked (later t (s .now)) s)
 told-house s t p h =
@@ -255,7 +267,8 @@ told-house s t p h =
       next-from-one = h .next-from-one;
       next-bounded = h .next-bounded;
       rooms-apart = mapped-pairs (agedRoom (later t (s .now))) Apart (λ x y d. d) (s .rooms) (h .rooms-apart);
-      rooms-ok = λ r m. let (x, there, e) = Memᴰ·of-map (agedRoom (later t (s .now))) (s .rooms) m in rw (← e) (aged-ok x (later-now t (s .now)) (h .next-from-one) (h .rooms-ok x there)) }
+      rooms-ok = λ r m. let (x, there, e) = Memᴰ·of-map (agedRoom (later t (s .now))) (s .rooms) m in rw (← e) (aged-ok x (later-now t (s .now)) (h .next-from-one) (h .rooms-ok x there));
+    }
 
 within-house : (s : State) (n : Name) (r q : Room) (next : ℕ) → find (isRoom n) (s .rooms) ≡ r ∷ [] → s .next < 4611686018427387904 → House s → RoomStep s r next q → House (record { now = s .now; next = next; rooms = change (isRoom n) (λ _. q) (s .rooms) })
 within-house s n r q next e left h w =
@@ -265,10 +278,12 @@ within-house s n r q next e left h w =
       next-from-one = omega (arith, w .no-less, h .next-from-one);
       next-bounded = omega (arith, w .one-more);
       rooms-apart = change-pairs (isRoom n) (λ _. q) Apart (λ x y i d o. d (sym (same-eq n (x .name) i) ∙ same-q ∙ o)) (λ x y i d o. d (o ∙ sym same-q ∙ same-eq n (y .name) i)) (s .rooms) (h .rooms-apart);
-      rooms-ok = λ x m. each x (changed-was (isRoom n) (λ _. q) (s .rooms) x m) }
+      rooms-ok = λ x m. each x (changed-was (isRoom n) (λ _. q) (s .rooms) x m);
+    }
   where
     same-q : n ≡ q .name
     same-q = same-eq n (r .name) (found (isRoom n) (s .rooms) r [] e .passes) ∙ sym (w .named)
+
     each : (x : Room) → ((y : Room) × (x ≡ q) × Found (isRoom n) (s .rooms) y) ⊎ List·Memᴰ x (s .rooms) → RoomOk (s .now) next x
     each x (inl t) = rw (t .1) (w .ok)
     each x (inr m) = room-later (omega arith) (w .no-less) (h .rooms-ok x m)
@@ -295,6 +310,7 @@ once-step s g spot n m k l v w i j one e = go (origin s _ _ n k (spot .moves n k
   where
     below : (n k : Name) (v : Version) → List·Memᴰ v (versionsIn n k s) → v .num < s .next
     below n k v i = heap-in s g n k .each-fits v i .num-below
+
     go : Origin s (spot .room) (spot .key) n k v → Origin s (spot .room) (spot .key) m l w → (n ≡ m) × (k ≡ l)
     go (was v₀ i p) (was w₀ j q) = g .once n m k l v₀ w₀ i j (omega (arith, p .num)) (omega (arith, p .num, q .num))
     go (was v₀ i p) (came a b d) = absurd (omega (arith, p .num, below n k v₀ i))
@@ -316,7 +332,7 @@ good-blank : Good blank
 unfolding find
 good-blank =
     good-house (record { few-rooms = omega arith; now-small = tt; next-from-one = omega arith; next-bounded = omega arith; rooms-apart = tt; rooms-ok = λ r m. absurd (List·Memᴰ·not-nil m) })
-      (λ n m k l v w i j. absurd (List·Memᴰ·not-nil i))
+    (λ n m k l v w i j. absurd (List·Memᴰ·not-nil i))
 
 pub good : {s : State} → Run blank s → Good s
 good run = good-run good-blank run

@@ -65,9 +65,11 @@ module _ {A : Type 0} (f : A → Bool) where
     where
       deeper : Found f xs x → Found f (y ∷ xs) x
       deeper h = record { there = List·Memᴰ·tail (h .there); passes = h .passes }
+
       first : f y ≡ true → (List·Memᴰ x (keep f xs) → Found f xs x) → (x ≡ y) ⊎ List·Memᴰ x (keep f xs) → Found f (y ∷ xs) x
       first p below (inl e) = record { there = List·Memᴰ·head e; passes = rw e p }
       first p below (inr m) = deeper (below m)
+
       go : (b : Bool) → f y ≡ b → (List·Memᴰ x (keep f xs) → Found f xs x) → Found f (y ∷ xs) x
       go true p below = first p below (List·Memᴰ·cases-cons (rw p at m))
       go false p below = deeper (below (rw p at m))
@@ -120,15 +122,19 @@ module _ {A : Type 0} (f : A → Bool) where
     where
       Was : List A → Type 0
       Was ys = ((w : A) × (z ≡ g w) × Found f ys w) ⊎ List·Memᴰ z ys
+
       first : f x ≡ true → (z ≡ g x) ⊎ List·Memᴰ z xs → Was (x ∷ xs)
       first p (inl e) = inl (x, e, record { there = List·Memᴰ·head refl; passes = p })
       first p (inr m) = inr (List·Memᴰ·tail m)
+
       deeper : Was xs → Was (x ∷ xs)
       deeper (inl t) = inl (t .0, t .1, record { there = List·Memᴰ·tail (t .2 .there); passes = t .2 .passes })
       deeper (inr m) = inr (List·Memᴰ·tail m)
+
       later : (List·Memᴰ z (change f g xs) → Was xs) → (z ≡ x) ⊎ List·Memᴰ z (change f g xs) → Was (x ∷ xs)
       later below (inl e) = inr (List·Memᴰ·head e)
       later below (inr m) = deeper (below m)
+
       go : (b : Bool) → f x ≡ b → (List·Memᴰ z (change f g xs) → Was xs) → Was (x ∷ xs)
       go true p below = first p (List·Memᴰ·cases-cons (rw p at m))
       go false p below = later below (List·Memᴰ·cases-cons (rw p at m))
@@ -141,9 +147,11 @@ module _ {A : Type 0} (f : A → Bool) where
     where
       Is : List A → Type 0
       Is ys = List·Memᴰ z ys ⊎ ((f z ≡ true) × List·Memᴰ (g z) ys)
+
       deeper : Is (change f g xs) → Is (x ∷ change f g xs)
       deeper (inl m) = inl (List·Memᴰ·tail m)
       deeper (inr t) = inr (t .0, List·Memᴰ·tail (t .1))
+
       go : (b : Bool) → f x ≡ b → (List·Memᴰ z xs → Is (change f g xs)) → (z ≡ x) ⊎ List·Memᴰ z xs → Is (cond (f x) (g x ∷ xs) (x ∷ change f g xs))
       go true p below (inl e) = rw p (inr (rw e p, List·Memᴰ·head (ap g e)))
       go true p below (inr m) = rw p (inl (List·Memᴰ·tail m))

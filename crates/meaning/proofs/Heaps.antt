@@ -49,7 +49,8 @@ heap-keep {keeps} f vs h =
       few = omega (arith, h .few, keep-length f vs);
       rules-mark = λ e v ws d. h .rules-mark (omega (arith, e, h .few, keep-length f vs)) v ws (sym (keep-whole f vs (omega (arith, e, h .few))) ∙ d);
       each-fits = λ v m. h .each-fits v (kept-was f vs v m .there);
-      stacked = keep-pairs f (Over keeps) vs (h .stacked) }
+      stacked = keep-pairs f (Over keeps) vs (h .stacked);
+    }
 
 -- a hold that grows
 
@@ -71,7 +72,8 @@ hold-fits until v t e f =
       came = f .came;
       hold-small = higher-small (v .held) until (f .hold-small) t;
       mark-not-held = λ d. absurd (not-removed (v .body) e d);
-      of-bytes = f .of-bytes }
+      of-bytes = f .of-bytes;
+    }
 
 -- the latest keeps its number
 change-top : (num until : ℕ) (vs : List Version) (v : Version) (ws : List Version) → change (isNum num) (holdTo until) vs ≡ v ∷ ws → (u : Version) × (us : List Version) × (vs ≡ u ∷ us) × (v .num ≡ u .num)
@@ -89,7 +91,8 @@ heap-longer {now} {next} {keeps} num until v vs t e d h =
       few = omega (arith, h .few, change-length (isNum num) (holdTo until) vs);
       rules-mark = λ l w ws x. let (u, us, a, b) = change-top num until vs w ws x in b ∙ h .rules-mark (sym (change-length (isNum num) (holdTo until) vs) ∙ l) u us a;
       each-fits = λ w m. one w (changed-was (isNum num) (λ _. holdTo until v) vs w (rw (change-as (isNum num) (holdTo until) vs v e) at m));
-      stacked = change-pairs (isNum num) (holdTo until) (Over keeps) (λ x y _ o. record { later = o .later; higher = o .higher; was-held = o .was-held }) (λ x y _ o. record { later = o .later; higher = o .higher; was-held = λ k. omega (arith, o .was-held k, higher-left (y .held) until) }) vs (h .stacked) }
+      stacked = change-pairs (isNum num) (holdTo until) (Over keeps) (λ x y _ o. record { later = o .later; higher = o .higher; was-held = o .was-held }) (λ x y _ o. record { later = o .later; higher = o .higher; was-held = λ k. omega (arith, o .was-held k, higher-left (y .held) until) }) vs (h .stacked);
+    }
   where
     one : (w : Version) → ((u : Version) × (w ≡ holdTo until v) × Found (isNum num) vs u) ⊎ List·Memᴰ w vs → VersionFits now next w
     one w (inl x) = rw (x .1) (hold-fits until v t d (h .each-fits v (found (isNum num) vs v [] e .there)))
@@ -102,13 +105,15 @@ heap-on-top {now} {next} true v vs f a n l h =
       few = omega arith;
       rules-mark = λ e. absurd (omega arith);
       each-fits = λ w m. elim (List·Memᴰ·cases-cons m) [ inl e ↦ rw e f | inr k ↦ version-later (omega arith) (omega arith) (h .each-fits w k) ];
-      stacked = (λ w m. record { later = omega (arith, h .each-fits w m .came, a); higher = λ _. omega (arith, h .each-fits w m .num-below, n); was-held = λ e. absurd (true≢false e) }, h .stacked) }
+      stacked = (λ w m. record { later = omega (arith, h .each-fits w m .came, a); higher = λ _. omega (arith, h .each-fits w m .num-below, n); was-held = λ e. absurd (true≢false e) }, h .stacked);
+    }
 heap-on-top {now} {next} false v vs f a n l h =
     record {
       few = omega (arith, keep-length (isHeld now) vs);
       rules-mark = λ e. absurd (omega (arith, keep-length (isHeld now) vs));
       each-fits = λ w m. elim (List·Memᴰ·cases-cons m) [ inl e ↦ rw e f | inr k ↦ version-later (omega arith) (omega arith) (h .each-fits w (kept-was (isHeld now) vs w k .there)) ];
-      stacked = (λ w m. over w (kept-was (isHeld now) vs w m), keep-pairs (isHeld now) (Over false) vs (h .stacked)) }
+      stacked = (λ w m. over w (kept-was (isHeld now) vs w m), keep-pairs (isHeld now) (Over false) vs (h .stacked));
+    }
   where
     over : (w : Version) → Found (isHeld now) vs w → Over false v w
     over w k = record { later = omega (arith, h .each-fits w (k .there) .came, a); higher = λ _. omega (arith, h .each-fits w (k .there) .num-below, n); was-held = λ _. omega (arith, ltb-true now (w .held) (k .passes)) }
@@ -125,9 +130,11 @@ old-was now l at (v ∷ vs) w m = go (due now l at && not (isHeld now v)) refl (
   where
     rest : List Version
     rest = oldKept now l (v .at) vs
+
     first : (List·Memᴰ w rest → List·Memᴰ w vs) → (w ≡ v) ⊎ List·Memᴰ w rest → List·Memᴰ w (v ∷ vs)
     first below (inl e) = List·Memᴰ·head e
     first below (inr m) = List·Memᴰ·tail (below m)
+
     go : (b : Bool) → (due now l at && not (isHeld now v)) ≡ b → (List·Memᴰ w rest → List·Memᴰ w vs) → List·Memᴰ w (v ∷ vs)
     go true e below = List·Memᴰ·tail (below (rw e at m))
     go false e below = first below (List·Memᴰ·cases-cons (rw e at m))
@@ -159,7 +166,8 @@ mark-fits now next p =
       came = omega arith;
       hold-small = tt;
       mark-not-held = λ _. refl;
-      of-bytes = λ bs e. absurd (let z : _≡_ {A = ℕ} 0 1 = cc in omega arith) }
+      of-bytes = λ bs e. absurd (let z : _≡_ {A = ℕ} 0 1 = cc in omega arith);
+    }
 
 -- a mark on top of what fits, with room for it
 heap-marked : {now next : ℕ} {keeps : Bool} (vs : List Version) → 1 ≤ next → length vs ≤ 1024 → ((w : Version) → List·Memᴰ w vs → keeps ≡ false → 1 ≤ w .held) → Heap now next keeps vs → Heap now next keeps (mark now ∷ vs)
@@ -168,7 +176,8 @@ heap-marked {now} {next} vs p l k h =
       few = omega arith;
       rules-mark = λ _ v ws e. let x : mark now ≡ v = cc in rw (← x) refl;
       each-fits = λ w m. elim (List·Memᴰ·cases-cons m) [ inl e ↦ rw e (mark-fits now next p) | inr m′ ↦ h .each-fits w m′ ];
-      stacked = (λ w m. record { later = h .each-fits w m .came; higher = λ e. absurd (omega arith); was-held = k w m }, h .stacked) }
+      stacked = (λ w m. record { later = h .each-fits w m .came; higher = λ e. absurd (omega arith); was-held = k w m }, h .stacked);
+    }
 
 -- the latest, over what stays of the older ones
 heap-older : {now next : ℕ} {keeps : Bool} (l : ℕ) (v : Version) (vs : List Version) → Heap now next keeps (v ∷ vs) → Heap now next keeps (v ∷ oldKept now l (v .at) vs)
@@ -177,7 +186,8 @@ heap-older {now} {keeps} l v vs h =
       few = omega (arith, h .few, old-length now l (v .at) vs);
       rules-mark = λ e w ws d. let x : v ≡ w = cc in rw (← x) (h .rules-mark (omega (arith, h .few, old-length now l (v .at) vs)) v vs refl);
       each-fits = λ w m. h .each-fits w (elim (List·Memᴰ·cases-cons m) [ inl e ↦ List·Memᴰ·head e | inr m′ ↦ List·Memᴰ·tail (old-was now l (v .at) vs w m′) ]);
-      stacked = (λ w m. h .stacked .0 w (old-was now l (v .at) vs w m), old-pairs (Over keeps) now l (v .at) vs (h .stacked .1)) }
+      stacked = (λ w m. h .stacked .0 w (old-was now l (v .at) vs w m), old-pairs (Over keeps) now l (v .at) vs (h .stacked .1));
+    }
 
 heap-tail : {now next : ℕ} {keeps : Bool} (v : Version) (vs : List Version) → length vs ≤ 1024 → Heap now next keeps (v ∷ vs) → Heap now next keeps vs
 heap-tail v vs l h = record { few = omega arith; rules-mark = λ e. absurd (omega arith); each-fits = λ w m. h .each-fits w (List·Memᴰ·tail m); stacked = h .stacked .1 }
@@ -200,9 +210,11 @@ heap-aged {now} {next} keeps (x ∷ xs) (v ∷ vs) p h =
   where
     old : List Version
     old = oldKept now (x .oldLasts) (v .at) vs
+
     hides : (ws : List Version) → length ws ≤ 1024 → ((w : Version) → List·Memᴰ w ws → 1 ≤ w .held) → Heap now next false ws → Heap now next false (covered now ws)
     hides [] l k h = h
     hides (w ∷ ws) l k h = heap-marked (w ∷ ws) p l (λ u m _. k u m) h
+
     takes : (k : Bool) → Heap now next k (v ∷ vs) → isRemoved (v .body) ≡ false → Heap now next k (cond k (mark now ∷ v ∷ old) (covered now old))
     takes true h e = heap-marked (v ∷ old) p (omega (arith, below-mark v vs e h, old-length now (x .oldLasts) (v .at) vs)) (λ w m d. absurd (true≢false d)) (heap-older (x .oldLasts) v vs h)
     takes false h e = let l : length old ≤ 1024 = omega (arith, h .few, old-length now (x .oldLasts) (v .at) vs) in hides old l (λ w m. h .stacked .0 w (old-was now (x .oldLasts) (v .at) vs w m) .was-held refl) (heap-tail v old l (heap-older (x .oldLasts) v vs h))
@@ -216,23 +228,31 @@ aged-was-or-mark now keeps (x ∷ xs) (v ∷ vs) w m = untidied (tidy-cases unti
   where
     old : List Version
     old = oldKept now (x .oldLasts) (v .at) vs
+
     untidy : List Version
     untidy = cond (due now (x .lasts) (v .at) && not (isRemoved (v .body)) && not (isHeld now v)) (cond keeps (mark now ∷ v ∷ old) (covered now old)) (v ∷ old)
+
     Was : Type 0
     Was = List·Memᴰ w (v ∷ vs) ⊎ (w .num ≡ 0)
+
     older : List·Memᴰ w old → Was
     older m = inl (List·Memᴰ·tail (old-was now (x .oldLasts) (v .at) vs w m))
+
     latest : (w ≡ v) ⊎ List·Memᴰ w old → Was
     latest (inl e) = inl (List·Memᴰ·head e)
     latest (inr m) = older m
+
     under-mark : (ws : List Version) → (List·Memᴰ w ws → Was) → (w ≡ mark now) ⊎ List·Memᴰ w ws → Was
     under-mark ws below (inl e) = inr (rw e refl)
     under-mark ws below (inr m) = below m
+
     hidden : (ws : List Version) → (List·Memᴰ w ws → Was) → List·Memᴰ w (covered now ws) → Was
     hidden [] below m = absurd (List·Memᴰ·not-nil m)
     hidden (u ∷ ws) below m = under-mark (u ∷ ws) below (List·Memᴰ·cases-cons m)
+
     whole : List·Memᴰ w untidy → Was
     whole = cond-both (due now (x .lasts) (v .at) && not (isRemoved (v .body)) && not (isHeld now v)) (cond keeps (mark now ∷ v ∷ old) (covered now old)) (v ∷ old) (λ ws. List·Memᴰ w ws → Was) (λ _. cond-both keeps (mark now ∷ v ∷ old) (covered now old) (λ ws. List·Memᴰ w ws → Was) (λ _ m. under-mark (v ∷ old) (λ m′. latest (List·Memᴰ·cases-cons m′)) (List·Memᴰ·cases-cons m)) (λ _ m. hidden old older m)) (λ _ m. latest (List·Memᴰ·cases-cons m))
+
     untidied : (tidy untidy ≡ []) ⊎ (tidy untidy ≡ untidy) → Was
     untidied (inl e) = absurd (List·Memᴰ·not-nil (subst (List·Memᴰ w) e m))
     untidied (inr e) = whole (subst (List·Memᴰ w) e m)

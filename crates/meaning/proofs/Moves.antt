@@ -51,6 +51,7 @@ made-moves s n keeps m l = go (find-pushed (isRoom m) (emptyRoom n keeps) (s .ro
   where
     t : State
     t = record { now = s .now; next = s .next; rooms = s .rooms ++ (emptyRoom n keeps ∷ []) }
+
     go : (find (isRoom m) (t .rooms) ≡ find (isRoom m) (s .rooms)) ⊎ ((find (isRoom m) (s .rooms) ≡ []) × (isRoom m (emptyRoom n keeps) ≡ true) × (find (isRoom m) (t .rooms) ≡ emptyRoom n keeps ∷ [])) → versionsIn m l t ≡ versionsIn m l s
     go (inl e) = versions-same m l s t e
     go (inr h) = versions-found m l t (emptyRoom n keeps) (h .2) ∙ sym (versions-none m l s (h .0))
@@ -61,12 +62,16 @@ dropped-moves s n r e none m l = go (same m n) refl
   where
     t : State
     t = record { now = s .now; next = s .next; rooms = without n (s .rooms) }
+
     other : Room → Bool
     other x = not (isRoom n x)
+
     empty : at' l r ≡ []
     empty = rw none refl
+
     gone : m ≡ n → find (isRoom m) (t .rooms) ≡ []
     gone d = find-nothing (isRoom m) (t .rooms) (λ x i. rw d (not-true (isRoom n x) (kept-was other (s .rooms) x i .passes)))
+
     go : (b : Bool) → same m n ≡ b → versionsIn m l t ≡ versionsIn m l s
     go true d = versions-none m l t (gone (same-eq m n d)) ∙ sym empty ∙ sym (versions-found m l s r (rw (same-eq m n d) e))
     go false d = versions-same m l s t (find-kept other (isRoom m) (λ x i. not-from-false (isRoom n x) (same-unlike n (x .name) (λ y. same-not m n d (same-eq m (x .name) i ∙ sym y)))) (s .rooms))
@@ -76,10 +81,13 @@ told-moves s t g n k = go (found-or-none (isRoom n) (s .rooms))
   where
     now : ℕ
     now = later t (s .now)
+
     mapped : find (isRoom n) (ticked now s .rooms) ≡ map (agedRoom now) (find (isRoom n) (s .rooms))
     mapped = find-mapped (isRoom n) (agedRoom now) (λ _. refl) (s .rooms)
+
     left : (r : Room) → find (isRoom n) (s .rooms) ≡ r ∷ [] → versionsIn n k (ticked now s) ≡ aged now (r .keeps) (ruleFor k (r .rules)) (at' k r)
     left r e = versions-found n k (ticked now s) (agedRoom now r) (mapped ∙ ap (map (agedRoom now)) e) ∙ found-aged now r k (r .objects) (g .rooms-good r (found (isRoom n) (s .rooms) r [] e .there) .keys-rise)
+
     go : (find (isRoom n) (s .rooms) ≡ []) ⊎ ((r : Room) × (find (isRoom n) (s .rooms) ≡ r ∷ [])) → Moves s now [] [] n k (Tick t) (versionsIn n k (ticked now s))
     go (inl e) = unmoved (versions-none n k (ticked now s) (mapped ∙ ap (map (agedRoom now)) e) ∙ sym (versions-none n k s e))
     go (inr h) = rw (left (h .0) (h .1)) (ages t (h .0) refl (h .1))
@@ -114,6 +122,7 @@ set-moves {c} {next} {us} {vs} s n r k rise e h m l = go (same m n) (same l k) r
   where
     q : Room
     q = withUploads us (withObjects (setObject k vs (r .objects)) r)
+
     go : (a b : Bool) → same m n ≡ a → same l k ≡ b → Moves s (s .now) n k m l c (versionsIn m l (replaced s next n q))
     go true true i j = rw (same-eq m n i, same-eq l k j, replaced-here s n r q e refl next k, found-set k vs (r .objects) rise) (set r refl refl refl e h)
     go true false i j = unmoved (rw (same-eq m n i) (replaced-here s n r q e refl next l ∙ ap versionsOf (found-elsewhere k l vs (r .objects) (same-not l k j)) ∙ sym (versions-found n l s r e)))
@@ -163,12 +172,15 @@ origin s room key n k (set r _ i j e h) w m = go h m
   where
     there : (v : Version) → List·Memᴰ v (at' k r) → Like v w → Origin s room key n k w
     there v m l = was v (rw (versions-found n k s r e) m) l
+
     top : (b : Body) → (w ≡ fresh s b) ⊎ List·Memᴰ w (cond (r .keeps) (at' k r) (keep (isHeld (s .now)) (at' k r))) → Origin s room key n k w
     top b (inl d) = came i j (rw d refl)
     top b (inr m) = there w (below-was (s .now) (r .keeps) (at' k r) w m) (like-itself w)
+
     held : (num until : ℕ) → ((u : Version) × (w ≡ holdTo until u) × Found (isNum num) (at' k r) u) ⊎ List·Memᴰ w (at' k r) → Origin s room key n k w
     held num until (inl t) = there (t .0) (t .2 .there) (rw (t .1) (record { num = refl; body = refl; at = refl; held = higher-left (t .0 .held) until }))
     held num until (inr m) = there w m (like-itself w)
+
     go : {c : Call} {reply : Reply} {next : ℕ} {us : List Upload} {vs : List Version} → Sets s n r k c reply next us vs → List·Memᴰ w vs → Origin s room key n k w
     go (new b wr l) m = top b (List·Memᴰ·cases-cons m)
     go (gone a b) m = absurd (List·Memᴰ·not-nil m)

@@ -72,6 +72,7 @@ less-total (x ∷ xs) (y ∷ ys) p q = ap₂ _∷_ heads (less-total xs ys (tail
   where
     heads : x ≡ y
     heads = omega (arith, ltb-false x y (or-parts (ltb x y) (eqb x y && less xs ys) p .0), ltb-false y x (or-parts (ltb y x) (eqb y x && less ys xs) q .0))
+
     tails : (u w : ℕ) (us ws : Name) → u ≡ w → less (u ∷ us) (w ∷ ws) ≡ false → less us ws ≡ false
     tails u w us ws e h = rw (eq-eqb u w e) at (or-parts (ltb u w) (eqb u w && less us ws) h .1)
 

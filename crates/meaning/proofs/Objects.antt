@@ -30,18 +30,23 @@ set-was k (v ∷ vs) (p ∷ os) o m = go (less k (p .key)) (less (p .key) k) ref
   where
     Was : List Object → Type 0
     Was ps = ((o ≡ under k (v ∷ vs)) × ((w : Version) × (ws : List Version) × (v ∷ vs ≡ w ∷ ws))) ⊎ List·Memᴰ o ps
+
     before : (o ≡ under k (v ∷ vs)) ⊎ List·Memᴰ o (p ∷ os) → Was (p ∷ os)
     before (inl e) = inl (e, (v, vs, refl))
     before (inr m) = inr m
+
     instead : (o ≡ under k (v ∷ vs)) ⊎ List·Memᴰ o os → Was (p ∷ os)
     instead (inl e) = inl (e, (v, vs, refl))
     instead (inr m) = inr (List·Memᴰ·tail m)
+
     deeper : Was os → Was (p ∷ os)
     deeper (inl t) = inl t
     deeper (inr m) = inr (List·Memᴰ·tail m)
+
     after : (List·Memᴰ o (setObject k (v ∷ vs) os) → Was os) → (o ≡ p) ⊎ List·Memᴰ o (setObject k (v ∷ vs) os) → Was (p ∷ os)
     after below (inl e) = inr (List·Memᴰ·head e)
     after below (inr m) = deeper (below m)
+
     go : (a b : Bool) → less k (p .key) ≡ a → less (p .key) k ≡ b → (List·Memᴰ o (setObject k (v ∷ vs) os) → Was os) → Was (p ∷ os)
     go true b e d below = before (List·Memᴰ·cases-cons (rw e at m))
     go false true e d below = after below (List·Memᴰ·cases-cons (rw (e, d) at m))
@@ -55,12 +60,15 @@ set-pairs k (v ∷ vs) (o ∷ os) p = go (less k (o .key)) (less (o .key) k) ref
   where
     new : Object
     new = under k (v ∷ vs)
+
     front : less k (o .key) ≡ true → (y : Object) → (y ≡ o) ⊎ List·Memᴰ y os → Before new y
     front e y (inl d) = rw d e
     front e y (inr m) = less-trans k (o .key) (y .key) e (p .0 y m)
+
     behind : less (o .key) k ≡ true → (y : Object) → ((y ≡ new) × ((w : Version) × (ws : List Version) × (v ∷ vs ≡ w ∷ ws))) ⊎ List·Memᴰ y os → Before o y
     behind e y (inl t) = rw (t .0) e
     behind e y (inr m) = p .0 y m
+
     go : (a b : Bool) → less k (o .key) ≡ a → less (o .key) k ≡ b → Pairs Before (setObject k (v ∷ vs) os) → Pairs Before (cond (less k (o .key)) (new ∷ o ∷ os) (cond (less (o .key) k) (o ∷ setObject k (v ∷ vs) os) (new ∷ os)))
     go true b e d below = rw e (λ y m. front e y (List·Memᴰ·cases-cons m), p)
     go false true e d below = rw (e, d) (λ y m. behind d y (set-was k (v ∷ vs) os y m), below)
@@ -113,11 +121,14 @@ module _ (now : ℕ) (r : Room) where
     where
       Was : List Object → Type 0
       Was ps = (q : Object) × List·Memᴰ q ps × (o .key ≡ q .key) × (o .versions ≡ left (q .key) (q .versions)) × ((v : Version) × (vs : List Version) × (o .versions ≡ v ∷ vs))
+
       deeper : Was os → Was (p ∷ os)
       deeper t = (t .0, List·Memᴰ·tail (t .1), t .2, t .3, t .4)
+
       first : (v : Version) (vs : List Version) → left (p .key) (p .versions) ≡ v ∷ vs → (List·Memᴰ o (agedObjects now r os) → Was os) → (o ≡ under (p .key) (v ∷ vs)) ⊎ List·Memᴰ o (agedObjects now r os) → Was (p ∷ os)
       first v vs e below (inl d) = (p, List·Memᴰ·head refl, ap (λ (x : Object). x .key) d, ap (λ (x : Object). x .versions) d ∙ sym e, (v, vs, ap (λ (x : Object). x .versions) d))
       first v vs e below (inr m) = deeper (below m)
+
       go : (vs : List Version) → left (p .key) (p .versions) ≡ vs → (List·Memᴰ o (agedObjects now r os) → Was os) → Was (p ∷ os)
       go [] e below = deeper (below (rw e at m))
       go (v ∷ vs) e below = first v vs e below (List·Memᴰ·cases-cons (rw e at m))
@@ -139,10 +150,13 @@ module _ (now : ℕ) (r : Room) where
     where
       Goal : Type 0
       Goal = versionsOf (find (isObject k) (kept (o .key) (left (o .key) (o .versions)) (agedObjects now r os))) ≡ left k (versionsOf (cond (same k (o .key)) (o ∷ []) (find (isObject k) os)))
+
       Below : Type 0
       Below = versionsOf (find (isObject k) (agedObjects now r os)) ≡ left k (versionsOf (find (isObject k) os))
+
       nothing : k ≡ o .key → find (isObject k) os ≡ []
       nothing e = none-after o os k p (inr e)
+
       go : (b : Bool) → same k (o .key) ≡ b → (vs : List Version) → left (o .key) (o .versions) ≡ vs → Below → Goal
       go true e [] d below = rw (d, e, below, nothing (same-eq k (o .key) e), aged-none now (r .keeps) (ruleFor k (r .rules)), same-eq k (o .key) e, d) refl
       go true e (v ∷ vs) d below = rw (d, e, same-eq k (o .key) e, d) refl

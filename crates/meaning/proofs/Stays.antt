@@ -37,12 +37,16 @@ old-stays now l u (v ∷ vs) w m = go (due now l (u .at) && not (isHeld now v)) 
   where
     rest : List Version
     rest = oldKept now l (v .at) vs
+
     Gone : List Version → Type 0
     Gone ws = (z : Version) × OnTopOf z w ws × T (due now l (z .at)) × (isHeld now w ≡ false)
+
     deeper : Gone (v ∷ vs) → Gone (u ∷ v ∷ vs)
     deeper g = (g .0, below (g .1), g .2, g .3)
+
     behind : (List·Memᴰ w vs → List·Memᴰ w rest ⊎ Gone (v ∷ vs)) → List·Memᴰ w vs → (List·Memᴰ w rest → List·Memᴰ w (cond (due now l (u .at) && not (isHeld now v)) rest (v ∷ rest))) → List·Memᴰ w (cond (due now l (u .at) && not (isHeld now v)) rest (v ∷ rest)) ⊎ Gone (u ∷ v ∷ vs)
     behind earlier m lift = elim (earlier m) [ inl k ↦ inl (lift k) | inr g ↦ inr (deeper g) ]
+
     go : (b : Bool) → (due now l (u .at) && not (isHeld now v)) ≡ b → (List·Memᴰ w vs → List·Memᴰ w rest ⊎ Gone (v ∷ vs)) → (w ≡ v) ⊎ List·Memᴰ w vs → List·Memᴰ w (cond (due now l (u .at) && not (isHeld now v)) rest (v ∷ rest)) ⊎ Gone (u ∷ v ∷ vs)
     go true e earlier (inl d) = let (a, b) = and-parts (due now l (u .at)) (not (isHeld now v)) e in inr (u, rw d here, so a, rw d (not-true (isHeld now v) b))
     go true e earlier (inr m) = behind earlier m (λ k. rw e k)
@@ -74,24 +78,31 @@ aged-stays now keeps x (v ∷ vs) w bytes m = at-place (List·Memᴰ·cases-cons
   where
     old : List Version
     old = oldKept now (x .oldLasts) (v .at) vs
+
     goes : Bool
     goes = due now (x .lasts) (v .at) && not (isRemoved (v .body)) && not (isHeld now v)
+
     left : Bool → List Version
     left b = cond b (cond keeps (mark now ∷ v ∷ old) (covered now old)) (v ∷ old)
+
     Fate : Type 0
     Fate = List·Memᴰ w (tidy (left goes)) ⊎ (DueBy now keeps x w (v ∷ vs) × (isHeld now w ≡ false))
+
     stays : List·Memᴰ w (left goes) → Fate
     stays m = inl (tidy-stays (left goes) w bytes m)
+
     older : (b k : Bool) → List·Memᴰ w old → List·Memᴰ w (cond b (cond k (mark now ∷ v ∷ old) (covered now old)) (v ∷ old))
     older true true m = List·Memᴰ·tail (List·Memᴰ·tail m)
     older true false m = covered-stays now old w m
     older false k m = List·Memᴰ·tail m
+
     latest : w ≡ v → (b k : Bool) → goes ≡ b → keeps ≡ k → List·Memᴰ w (left goes) ⊎ (DueBy now keeps x w (v ∷ vs) × (isHeld now w ≡ false))
     latest d true true e f = inl (rw (e, f) (List·Memᴰ·tail (List·Memᴰ·head d)))
     latest d true false e f =
         let (a, b) = and-parts (due now (x .lasts) (v .at) && not (isRemoved (v .body))) (not (isHeld now v)) e in
         inr (as-latest vs (rw d refl) f (rw d (so (and-parts (due now (x .lasts) (v .at)) (not (isRemoved (v .body))) a .0))), rw d (not-true (isHeld now v) b))
     latest d false k e f = inl (rw e (List·Memᴰ·head d))
+
     at-place : (w ≡ v) ⊎ List·Memᴰ w vs → Fate
     at-place (inl d) = elim (latest d goes keeps refl refl) [ inl m ↦ stays m | inr g ↦ inr g ]
     at-place (inr m) = elim (old-stays now (x .oldLasts) v vs w m) [ inl k ↦ stays (older goes keeps k) | inr g ↦ inr (as-older (g .0) (g .1) (g .2), g .3) ]
@@ -136,8 +147,10 @@ module _ (s : State) (n k : Name) (r : Room) (e : find (isRoom n) (s .rooms) ≡
     where
       hit : Found (isNum num) (at' k r) w
       hit = found (isNum num) (at' k r) w [] d
+
       here-num : num ≡ w .num
       here-num = eqb-true num (w .num) (hit .passes)
+
       go : (b : Bool) → isNum (w .num) v ≡ b → Fate s n k v (Remove n k num) (s .now) (keep (λ (u : Version). not (isNum (w .num) u)) (at' k r))
       go true i =
           let same : w ≡ v = one-version (at' k r) h w v (hit .there) m (omega (arith, here-num, z)) (eqb-true (w .num) (v .num) i) in
@@ -155,6 +168,7 @@ module _ (s : State) (n k : Name) (r : Room) (e : find (isRoom n) (s .rooms) ≡
     where
       now : ℕ
       now = later t (s .now)
+
       go : (ruleFor k (r .rules) ≡ []) ⊎ ((x : Rule) × (ruleFor k (r .rules) ≡ x ∷ [])) → Fate s n k v (Tick t) now (aged now (r .keeps) (ruleFor k (r .rules)) (at' k r))
       go (inl d) = rw d (inl (still-itself v _ m))
       go (inr h) = rw (h .1) (elim (aged-stays now (r .keeps) (h .0) (at' k r) v bytes m) [ inl i ↦ inl (still-itself v _ i) | inr g ↦ inr (by-rule t r (h .0) e (h .1) (g .0), not-held now v (g .1)) ])
@@ -193,6 +207,7 @@ held-later before (onward {t = t} c run) n k v m h = go (held-later before run n
   where
     g : Good t
     g = good-run (good before) run
+
     go : StillIn v (versionsIn n k t) → StillIn v (versionsIn n k (does c t .state))
     go i =
         let held : T (isHeld (does c t .state .now) (i .found)) = held-since (does c t .state .now) (does c t .state .now) v (i .found) (omega arith) (i .held) h in

@@ -31,6 +31,9 @@ withPart p bs y = record { num = y .num; key = y .key; parts = setPart p bs (y .
 abbrev pub others : ℕ → List Upload → List Upload
 others u us = keep (λ (y : Upload). not (isUpload u y)) us
 
+abbrev pub withRules : List Rule → Room → Room
+withRules rs r = record { name = r .name; keeps = r .keeps; rules = rs; objects = r .objects; uploads = r .uploads }
+
 -- the calls that put a new version on top of a key; the uploads that are left, and the body
 pub data Writes (n : Name) (r : Room) (k : Name) : Call → List Upload → Body → Type 0 where
   by-put : (bs : List ℕ) (x : Expect) → T (nameOk k) → length bs ≤ 5242880 → T (bytes bs) → Writes n r k (Put n k bs x) (r .uploads) (Bytes bs)
@@ -50,7 +53,7 @@ pub data Within (s : State) (n : Name) (r : Room) : Call → Reply → ℕ → R
   begun : (k : Name) → T (nameOk k) → length (r .uploads) < 1024 → Within s n r (Begin n k) (Num (s .next)) (s .next + 1) (withUploads (r .uploads ++ (record { num = s .next; key = k; parts = [] } ∷ [])) r)
   parted : (u p : ℕ) (bs : List ℕ) → 1 ≤ p → p ≤ 10000 → length bs ≤ 5242880 → T (bytes bs) → Within s n r (PutPart n u p bs) Yes (s .next) (withUploads (change (isUpload u) (withPart p bs) (r .uploads)) r)
   aborted : (u : ℕ) → Within s n r (Abort n u) Yes (s .next) (withUploads (others u (r .uploads)) r)
-  ruled : (rs : List Rule) → length rs ≤ 64 → T (every ruleOk rs) → Within s n r (SetRules n rs) Yes (s .next) (record { name = r .name; keeps = r .keeps; rules = rs; objects = r .objects; uploads = r .uploads })
+  ruled : (rs : List Rule) → length rs ≤ 64 → T (every ruleOk rs) → Within s n r (SetRules n rs) Yes (s .next) (withRules rs r)
 
 abbrev pub emptyRoom : Name → Bool → Room
 emptyRoom n k = record { name = n; keeps = k; rules = []; objects = []; uploads = [] }
@@ -68,10 +71,14 @@ pub data Step (s : State) : Call → Out → Type 0 where
 refused : {c : Call} (k : ℕ) (s : State) → Step s c (no k s)
 refused k s = stands (No k) (λ j e. let z : _≡_ {A = ℕ} 0 1 = cc in omega arith)
 
+-- a test that refuses, or that failed
+guard : {s : State} {c : Call} (b : Bool) (k : ℕ) (o : Out) → (b ≡ false → Step s c o) → Step s c (cond b (no k s) o)
+guard {s} {c} b k o go = cond-both b (no k s) o (Step s c) (λ _. refused k s) go
+
 -- in the room that is named, or refused
-in-room : (n : Name) (f : Room → Out) (s : State) (P : Out → Type 0) → P (no 2 s) → ((r : Room) → find (isRoom n) (s .rooms) ≡ r ∷ [] → P (f r)) → P (inRoomOr (find (isRoom n) (s .rooms)) f s)
+inside : {s : State} {c : Call} (n : Name) (f : Room → Out) → ((r : Room) → find (isRoom n) (s .rooms) ≡ r ∷ [] → Step s c (f r)) → Step s c (inRoomOr (find (isRoom n) (s .rooms)) f s)
 unfolding inRoomOr
-in-room n f s P absent there = at-find (isRoom n) (λ rs. P (inRoomOr rs f s)) (s .rooms) (λ _. absent) there
+inside {s} {c} n f there = at-find (isRoom n) (λ rs. Step s c (inRoomOr rs f s)) (s .rooms) (λ _. refused 2 s) there
 
 -- a change of the room that was found is its replacement
 changes : {c : Call} {reply : Reply} {next : ℕ} (s : State) (n : Name) (r : Room) (f : Room → Room) → find (isRoom n) (s .rooms) ≡ r ∷ [] → s .next < 4611686018427387904 → Within s n r c reply next (f r) → Step s c (record { reply = reply; state = record { now = s .now; next = next; rooms = change (isRoom n) f (s .rooms) } })
@@ -96,12 +103,16 @@ three a b c e = let (p, q) = or-parts (a || b) c e in let (p₁, p₂) = or-part
 make-steps : (n : Name) (k : Bool) (s : State) → Step s (MakeRoom n k) (acts (MakeRoom n k) s)
 unfolding acts
 make-steps n k s =
-    cond-both (not (nameOk n)) _ _ (Step s (MakeRoom n k)) (λ _. refused 1 s) (λ ok. cond-both (some (isRoom n) (s .rooms)) _ _ (Step s (MakeRoom n k)) (λ _. refused 3 s) (λ new. cond-both (leb 256 (length (s .rooms))) _ _ (Step s (MakeRoom n k)) (λ _. refused 8 s)
-      (λ few. made n k (so (not-false (nameOk n) ok)) new (leb-false 256 (length (s .rooms)) few))))
+    guard (not (nameOk n)) _ _ λ ok.
+    guard (some (isRoom n) (s .rooms)) _ _ λ free.
+    guard (leb 256 (length (s .rooms))) _ _ λ few.
+    made n k (so (not-false (nameOk n) ok)) free (leb-false 256 (length (s .rooms)) few)
 
 drop-steps : (n : Name) (s : State) → Step s (DropRoom n) (acts (DropRoom n) s)
 unfolding acts
-drop-steps n s = in-room n _ s (Step s (DropRoom n)) (refused 2 s) (λ r e. cond-both (none (r .objects) && none (r .uploads)) _ _ (Step s (DropRoom n)) (λ h. dropped n r e (none-there (r .objects) (and-parts (none (r .objects)) (none (r .uploads)) h .0))) (λ _. refused 5 s))
+drop-steps n s =
+    inside n _ λ r e.
+    cond-both (none (r .objects) && none (r .uploads)) _ _ (Step s (DropRoom n)) (λ h. dropped n r e (none-there (r .objects) (and-parts (none (r .objects)) (none (r .uploads)) h .0))) (λ _. refused 5 s)
 
 tick-steps : (t : ℕ) (s : State) → Step s (Tick t) (acts (Tick t) s)
 unfolding acts
@@ -115,7 +126,10 @@ silent-list xs j e = let z : _≡_ {A = ℕ} 0 1 = cc in omega arith
 
 get-steps : (n k : Name) (num from most : ℕ) (s : State) → Step s (Get n k num from most) (acts (Get n k num from most) s)
 unfolding acts gets
-get-steps n k num from most s = cond-both (ltb 5242880 most) _ _ (Step s (Get n k num from most)) (λ _. refused 1 s) (λ _. in-room n _ s (Step s (Get n k num from most)) (refused 2 s) (λ r e. shows (chosen num (at' k r))))
+get-steps n k num from most s =
+    guard (ltb 5242880 most) _ _ λ _.
+    inside n _ λ r e.
+    shows (chosen num (at' k r))
   where
     shows : (vs : List Version) → Step s (Get n k num from most) (gets from most vs s)
     shows [] = refused 2 s
@@ -123,74 +137,104 @@ get-steps n k num from most s = cond-both (ltb 5242880 most) _ _ (Step s (Get n 
 
 look-steps : (n p after : Name) (most : ℕ) (s : State) → Step s (Look n p after most) (acts (Look n p after most) s)
 unfolding acts
-look-steps n p after most s = cond-both (ltb 1000 most) _ _ (Step s (Look n p after most)) (λ _. refused 1 s) (λ _. in-room n _ s (Step s (Look n p after most)) (refused 2 s) (λ r e. stands _ (silent-list _)))
+look-steps n p after most s =
+    guard (ltb 1000 most) _ _ λ _.
+    inside n _ λ r e.
+    stands _ (silent-list _)
 
 versions-steps : (n k : Name) (s : State) → Step s (Versions n k) (acts (Versions n k) s)
 unfolding acts
-versions-steps n k s = in-room n _ s (Step s (Versions n k)) (refused 2 s) (λ r e. stands _ (silent-list _))
+versions-steps n k s = inside n _ λ r e. stands _ (silent-list _)
 
 -- the calls that write, while there are numbers left
 module _ (s : State) (left : s .next < 4611686018427387904) where
   put-steps : (n k : Name) (bs : List ℕ) (x : Expect) → Step s (Put n k bs x) (acts (Put n k bs x) s)
   unfolding acts
   put-steps n k bs x =
-      cond-both (not (nameOk k) || ltb 5242880 (length bs) || not (bytes bs)) _ _ (Step s (Put n k bs x)) (λ _. refused 1 s) (λ ok. in-room n _ s (Step s (Put n k bs x)) (refused 2 s) (λ r e. put-in n k bs x r s (Step s (Put n k bs x)) (λ j. refused j s)
-        (λ few. let (a, b, c) = three (not (nameOk k)) (ltb 5242880 (length bs)) (not (bytes bs)) ok in
-          changes s n r _ e left (sets k (new (Bytes bs) (by-put bs x (so (not-false (nameOk k) a)) (ltb-false 5242880 (length bs) b) (so (not-false (bytes bs) c))) few)))))
+      guard (not (nameOk k) || ltb 5242880 (length bs) || not (bytes bs)) _ _ λ ok.
+      inside n _ λ r e.
+      put-in n k bs x r s (Step s (Put n k bs x)) (λ j. refused j s) λ few.
+      let (a, b, c) = three (not (nameOk k)) (ltb 5242880 (length bs)) (not (bytes bs)) ok in
+      changes s n r _ e left (sets k (new (Bytes bs) (by-put bs x (so (not-false (nameOk k) a)) (ltb-false 5242880 (length bs) b) (so (not-false (bytes bs) c))) few))
 
   remove-steps : (n k : Name) (num : ℕ) → Step s (Remove n k num) (acts (Remove n k num) s)
   unfolding acts removesOne
-  remove-steps n k num = in-room n _ s (Step s (Remove n k num)) (refused 2 s) (λ r e. cond-both (eqb num 0) _ _ (Step s (Remove n k num)) (λ z. rw (eqb-true num 0 z) (latest r e)) (λ z. at-find (isNum num) (λ vs. Step s (Remove n k num) (removesOne n k vs r s)) (at' k r) (λ _. refused 2 s) (λ v d. one r e (eqb-false num 0 z) v d)))
+  remove-steps n k num =
+      inside n _ λ r e.
+      cond-both (eqb num 0) _ _ (Step s (Remove n k num))
+        (λ z. rw (eqb-true num 0 z) (latest r e))
+        (λ z. at-find (isNum num) (λ vs. Step s (Remove n k num) (removesOne n k vs r s)) (at' k r) (λ _. refused 2 s) (λ v d. one r e (eqb-false num 0 z) v d))
     where
       one : (r : Room) → find (isRoom n) (s .rooms) ≡ r ∷ [] → (num ≡ 0 → ⊥) → (v : Version) → find (isNum num) (at' k r) ≡ v ∷ [] → Step s (Remove n k num) (removesOne n k (v ∷ []) r s)
-      one r e z v d = cond-both (isHeld (s .now) v) _ _ (Step s (Remove n k num)) (λ _. refused 6 s) (λ h. changes s n r _ e left (sets k (fewer num v z d h)))
+      one r e z v d = guard (isHeld (s .now) v) _ _ λ h. changes s n r _ e left (sets k (fewer num v z d h))
+
       latest : (r : Room) → find (isRoom n) (s .rooms) ≡ r ∷ [] → Step s (Remove n k 0) (removesLatest n k r s)
       latest r e =
-          cond-both (none (current (at' k r))) _ _ (Step s (Remove n k 0)) (λ _. refused 2 s) (λ there. cond-both (leb 1024 (length (at' k r))) _ _ (Step s (Remove n k 0)) (λ _. refused 8 s) (λ few. cond-both (r .keeps || some (isHeld (s .now)) (at' k r)) _ _ (Step s (Remove n k 0))
+          guard (none (current (at' k r))) _ _ λ there.
+          guard (leb 1024 (length (at' k r))) _ _ λ few.
+          cond-both (r .keeps || some (isHeld (s .now)) (at' k r)) _ _ (Step s (Remove n k 0))
             (λ _. changes s n r _ e left (sets k (new Removed (by-remove there) (leb-false 1024 (length (at' k r)) few))))
-            (λ h. let (a, b) = or-parts (r .keeps) (some (isHeld (s .now)) (at' k r)) h in changes s n r _ e left (sets k (gone a b)))))
+            (λ h. let (a, b) = or-parts (r .keeps) (some (isHeld (s .now)) (at' k r)) h in changes s n r _ e left (sets k (gone a b)))
 
   begin-steps : (n k : Name) → Step s (Begin n k) (acts (Begin n k) s)
   unfolding acts
   begin-steps n k =
-      cond-both (not (nameOk k)) _ _ (Step s (Begin n k)) (λ _. refused 1 s) (λ ok. in-room n _ s (Step s (Begin n k)) (refused 2 s) (λ r e. cond-both (leb 1024 (length (r .uploads))) _ _ (Step s (Begin n k)) (λ _. refused 8 s)
-        (λ few. changes s n r _ e left (begun k (so (not-false (nameOk k) ok)) (leb-false 1024 (length (r .uploads)) few)))))
+      guard (not (nameOk k)) _ _ λ ok.
+      inside n _ λ r e.
+      guard (leb 1024 (length (r .uploads))) _ _ λ few.
+      changes s n r _ e left (begun k (so (not-false (nameOk k) ok)) (leb-false 1024 (length (r .uploads)) few))
 
   part-steps : (n : Name) (u p : ℕ) (bs : List ℕ) → Step s (PutPart n u p bs) (acts (PutPart n u p bs) s)
   unfolding acts partsPut
   part-steps n u p bs =
-      cond-both (eqb p 0 || ltb 10000 p || ltb 5242880 (length bs) || not (bytes bs)) _ _ (Step s (PutPart n u p bs)) (λ _. refused 1 s) (λ ok. in-room n _ s (Step s (PutPart n u p bs)) (refused 2 s) (λ r e. at-find (isUpload u) (λ us. Step s (PutPart n u p bs) (partsPut n u p bs us s)) (r .uploads) (λ _. refused 2 s)
-        (λ y d. let (a, b, c) = three (eqb p 0 || ltb 10000 p) (ltb 5242880 (length bs)) (not (bytes bs)) ok in let (a₁, a₂) = or-parts (eqb p 0) (ltb 10000 p) a in let nz = eqb-false p 0 a₁ in
-          changes s n r (λ (r : Room). withUploads (change (isUpload u) (withPart p bs) (r .uploads)) r) e left (parted u p bs (omega arith) (ltb-false 10000 p a₂) (ltb-false 5242880 (length bs) b) (so (not-false (bytes bs) c))))))
+      guard (eqb p 0 || ltb 10000 p || ltb 5242880 (length bs) || not (bytes bs)) _ _ λ ok.
+      inside n _ λ r e.
+      at-find (isUpload u) (λ us. Step s (PutPart n u p bs) (partsPut n u p bs us s)) (r .uploads) (λ _. refused 2 s) λ y d.
+      let (a, b, c) = three (eqb p 0 || ltb 10000 p) (ltb 5242880 (length bs)) (not (bytes bs)) ok in
+      let (a₁, a₂) = or-parts (eqb p 0) (ltb 10000 p) a in
+      let from-one : 1 ≤ p = omega (arith, eqb-false p 0 a₁) in
+      changes s n r (λ (y : Room). withUploads (change (isUpload u) (withPart p bs) (y .uploads)) y) e left (parted u p bs from-one (ltb-false 10000 p a₂) (ltb-false 5242880 (length bs) b) (so (not-false (bytes bs) c)))
 
   abort-steps : (n : Name) (u : ℕ) → Step s (Abort n u) (acts (Abort n u) s)
   unfolding acts aborts
-  abort-steps n u = in-room n _ s (Step s (Abort n u)) (refused 2 s) (λ r e. at-find (isUpload u) (λ us. Step s (Abort n u) (aborts n u us s)) (r .uploads) (λ _. refused 2 s) (λ y d. changes s n r (λ (r : Room). withUploads (others u (r .uploads)) r) e left (aborted u)))
+  abort-steps n u =
+      inside n _ λ r e.
+      at-find (isUpload u) (λ us. Step s (Abort n u) (aborts n u us s)) (r .uploads) (λ _. refused 2 s) λ y d.
+      changes s n r (λ (y : Room). withUploads (others u (y .uploads)) y) e left (aborted u)
 
   rules-steps : (n : Name) (rs : List Rule) → Step s (SetRules n rs) (acts (SetRules n rs) s)
   unfolding acts
   rules-steps n rs =
-      cond-both (ltb 64 (length rs) || not (every ruleOk rs)) _ _ (Step s (SetRules n rs)) (λ _. refused 1 s) (λ ok. in-room n _ s (Step s (SetRules n rs)) (refused 2 s)
-        (λ r e. let (a, b) = or-parts (ltb 64 (length rs)) (not (every ruleOk rs)) ok in changes s n r (λ (y : Room). record { name = y .name; keeps = y .keeps; rules = rs; objects = y .objects; uploads = y .uploads }) e left (ruled rs (ltb-false 64 (length rs) a) (so (not-false (every ruleOk rs) b)))))
+      guard (ltb 64 (length rs) || not (every ruleOk rs)) _ _ λ ok.
+      inside n _ λ r e.
+      let (a, b) = or-parts (ltb 64 (length rs)) (not (every ruleOk rs)) ok in
+      changes s n r (withRules rs) e left (ruled rs (ltb-false 64 (length rs) a) (so (not-false (every ruleOk rs) b)))
 
   hold-steps : (n k : Name) (num until : ℕ) → Step s (Hold n k num until) (acts (Hold n k num until) s)
   unfolding acts holds keep
   hold-steps n k num until =
-      cond-both (not (small until)) _ _ (Step s (Hold n k num until)) (λ _. refused 1 s) (λ ok. in-room n _ s (Step s (Hold n k num until)) (refused 2 s) (λ r e. at-find (isNum num) (λ vs. Step s (Hold n k num until) (holds n k num until (keep (λ (v : Version). not (isRemoved (v .body))) vs) r s)) (at' k r) (λ _. refused 2 s)
-        (λ v d. cond-both (not (isRemoved (v .body))) (v ∷ []) [] (λ vs. Step s (Hold n k num until) (holds n k num until vs r s)) (λ h. changes s n r _ e left (sets k (longer num until v (so (not-false (small until) ok)) d (not-true (isRemoved (v .body)) h)))) (λ _. refused 2 s))))
+      guard (not (small until)) _ _ λ ok.
+      inside n _ λ r e.
+      at-find (isNum num) (λ vs. Holds r (keep (λ (v : Version). not (isRemoved (v .body))) vs)) (at' k r) (λ _. refused 2 s) λ v d.
+      cond-both (not (isRemoved (v .body))) (v ∷ []) [] (Holds r) (λ h. changes s n r _ e left (sets k (longer num until v (so (not-false (small until) ok)) d (not-true (isRemoved (v .body)) h)))) (λ _. refused 2 s)
+    where
+      Holds : Room → List Version → Type 0
+      Holds r vs = Step s (Hold n k num until) (holds n k num until vs r s)
 
   complete-steps : (n : Name) (u : ℕ) (x : Expect) → Step s (Complete n u x) (acts (Complete n u x) s)
   unfolding acts completes unless-no
-  complete-steps n u x = in-room n _ s (Step s (Complete n u x)) (refused 2 s) (λ r e. at-find (isUpload u) (λ us. Step s (Complete n u x) (unless-no n u (completes n u x us r s))) (r .uploads) (λ _. refused 2 s) (λ y d. whole r e y d))
+  complete-steps n u x =
+      inside n _ λ r e.
+      at-find (isUpload u) (λ us. After (completes n u x us r s)) (r .uploads) (λ _. refused 2 s) λ y d.
+      cond-both (none (y .parts) || not (gapless 1 (y .parts))) (no 7 s) _ After (λ _. refused 7 s) λ _.
+      put-in n (y .key) (joined (y .parts)) x r s After (λ j. refused j s) λ few.
+      -- first the object is set, then the upload goes: the room is changed twice
+      let q : Room = withObjects (setObject (y .key) (onTop (s .now) (r .keeps) (fresh s (Bytes (joined (y .parts)))) (at' (y .key) r)) (r .objects)) r in
+      rw (change-as (isRoom n) (withObjects (q .objects)) (s .rooms) r e, change-again (isRoom n) (λ (z : Room). withUploads (others u (z .uploads)) z) q (s .rooms) (found (isRoom n) (s .rooms) r [] e .passes))
+        (within n r _ e left (sets (y .key) (new (Bytes (joined (y .parts))) (by-complete u x y d refl) few)))
     where
       After : Out → Type 0
       After o = Step s (Complete n u x) (unless-no n u o)
-      whole : (r : Room) → find (isRoom n) (s .rooms) ≡ r ∷ [] → (y : Upload) → find (isUpload u) (r .uploads) ≡ y ∷ [] → After (completes n u x (y ∷ []) r s)
-      whole r e y d =
-          cond-both (none (y .parts) || not (gapless 1 (y .parts))) (no 7 s) _ After (λ _. refused 7 s) (λ _. put-in n (y .key) (joined (y .parts)) x r s After (λ j. refused j s)
-            (λ few. let q : Room = withObjects (setObject (y .key) (onTop (s .now) (r .keeps) (fresh s (Bytes (joined (y .parts)))) (at' (y .key) r)) (r .objects)) r in
-              rw (change-as (isRoom n) (withObjects (q .objects)) (s .rooms) r e, change-again (isRoom n) (λ (z : Room). withUploads (others u (z .uploads)) z) q (s .rooms) (found (isRoom n) (s .rooms) r [] e .passes))
-                (within n r _ e left (sets (y .key) (new (Bytes (joined (y .parts))) (by-complete u x y d refl) few)))))
 
 acts-steps : (c : Call) (s : State) → (isTick c ≡ false → s .next < 4611686018427387904) → Step s c (acts c s)
 unfolding isTick
@@ -212,8 +256,9 @@ acts-steps (Tick t) s left = tick-steps t s
 -- every call comes to one of these
 pub steps : (c : Call) (s : State) → Step s c (does c s)
 steps c s =
-    cond-both (eqb (s .now) 0 && not (isTick c)) _ _ (Step s c) (λ _. refused 10 s) (λ _. cond-both (not (small (s .next)) && not (isTick c)) _ _ (Step s c) (λ _. refused 8 s)
-      (λ h. acts-steps c s (λ tick. ltb-true (s .next) 4611686018427387904 (still tick h))))
+    guard (eqb (s .now) 0 && not (isTick c)) _ _ λ _.
+    guard (not (small (s .next)) && not (isTick c)) _ _ λ h.
+    acts-steps c s (λ tick. ltb-true (s .next) 4611686018427387904 (still tick h))
   where
     still : isTick c ≡ false → (not (small (s .next)) && not (isTick c)) ≡ false → small (s .next) ≡ true
     still tick h = elim (and-cases (not (small (s .next))) (not (isTick c)) h) [ inl a ↦ not-false (small (s .next)) a | inr b ↦ absurd (both-ways (isTick c) tick (not-false (isTick c) b)) ]

@@ -68,7 +68,8 @@ numbers-rise s c run =
       counts = k .counts;
       counts-no-other = k .counts-no-other;
       versions-below = λ n l v m. heap-in s g n l .each-fits v m .num-below;
-      uploads-below = uploads-below s g }
+      uploads-below = uploads-below s g;
+    }
 
 pub next-grows : {s t : State} → Run s t → s .next ≤ t .next
 next-grows still = omega arith
@@ -91,6 +92,7 @@ tells-later {s} g (onward {t = t} c run) n m k l v w i j one e = go (tells-later
   where
     spot : Spot t c (does c t)
     spot = moves t (good-run g run) (steps c t)
+
     go : ((u : Version) → List·Memᴰ v (versionsIn n k s) → List·Memᴰ u (versionsIn m l t) → 1 ≤ v .num → v .num ≡ u .num → Same n m k l v u) → Origin t (spot .room) (spot .key) m l w → Same n m k l v w
     go earlier (was u j p) =
         let h = earlier u i j one (e ∙ p .num) in

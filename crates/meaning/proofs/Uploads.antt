@@ -36,7 +36,8 @@ ups-others u us h =
       few = omega (arith, h .few, keep-length other us);
       each-fits = λ y m. h .each-fits y (kept-was other us y m .there);
       rise = keep-pairs other Begun us (h .rise);
-      parts-rise = λ y m. h .parts-rise y (kept-was other us y m .there) }
+      parts-rise = λ y m. h .parts-rise y (kept-was other us y m .there);
+    }
 
 pub ups-begun : {next : ℕ} (k : Name) (us : List Upload) → 1 ≤ next → T (nameOk k) → length us < 1024 → Ups next us → Ups (next + 1) (us ++ (record { num = next; key = k; parts = [] } ∷ []))
 ups-begun {next} k us p ok l h =
@@ -44,10 +45,12 @@ ups-begun {next} k us p ok l h =
       few = omega (arith, length-append us (new ∷ []));
       each-fits = λ u m. elim (List·Memᴰ·append-cases us m) [ inl m′ ↦ upload-later (omega arith) (h .each-fits u m′) | inr m′ ↦ rw (List·Memᴰ·eq-of-singleton m′) fits ];
       rise = pairs-pushed Begun new us (h .rise) (λ u m. h .each-fits u m .num-below);
-      parts-rise = λ u m. elim (List·Memᴰ·append-cases us m) [ inl m′ ↦ h .parts-rise u m′ | inr m′ ↦ rw (List·Memᴰ·eq-of-singleton m′) tt ] }
+      parts-rise = λ u m. elim (List·Memᴰ·append-cases us m) [ inl m′ ↦ h .parts-rise u m′ | inr m′ ↦ rw (List·Memᴰ·eq-of-singleton m′) tt ];
+    }
   where
     new : Upload
     new = record { num = next; key = k; parts = [] }
+
     fits : UploadFits (next + 1) new
     fits = record { key-fits = ok; from-one = p; num-below = omega arith; few = omega arith; each-fits = λ x m. absurd (List·Memᴰ·not-nil m) }
 
@@ -63,12 +66,15 @@ part-was p bs (x ∷ xs) y m = go (ltb p (x .place)) (eqb p (x .place)) refl ref
   where
     Was : List Part → Type 0
     Was ys = (y ≡ part p bs) ⊎ List·Memᴰ y ys
+
     deeper : Was xs → Was (x ∷ xs)
     deeper (inl e) = inl e
     deeper (inr m) = inr (List·Memᴰ·tail m)
+
     after : (List·Memᴰ y (setPart p bs xs) → Was xs) → (y ≡ x) ⊎ List·Memᴰ y (setPart p bs xs) → Was (x ∷ xs)
     after below (inl e) = inr (List·Memᴰ·head e)
     after below (inr m) = deeper (below m)
+
     go : (a b : Bool) → ltb p (x .place) ≡ a → eqb p (x .place) ≡ b → (List·Memᴰ y (setPart p bs xs) → Was xs) → Was (x ∷ xs)
     go true b e d below = List·Memᴰ·cases-cons (rw e at m)
     go false true e d below = deeper (List·Memᴰ·cases-cons (rw (e, d) at m))
@@ -82,9 +88,11 @@ part-pairs p bs (x ∷ xs) h = go (ltb p (x .place)) (eqb p (x .place)) refl ref
     front : p < x .place → (y : Part) → (y ≡ x) ⊎ List·Memᴰ y xs → p < y .place
     front l y (inl e) = rw e l
     front l y (inr m) = omega (arith, h .0 y m)
+
     behind : x .place < p → (y : Part) → (y ≡ part p bs) ⊎ List·Memᴰ y xs → x .place < y .place
     behind l y (inl e) = rw e l
     behind l y (inr m) = h .0 y m
+
     go : (a b : Bool) → ltb p (x .place) ≡ a → eqb p (x .place) ≡ b → Pairs Earlier (setPart p bs xs) → Pairs Earlier (cond (ltb p (x .place)) (part p bs ∷ x ∷ xs) (cond (eqb p (x .place)) (part p bs ∷ xs) (x ∷ setPart p bs xs)))
     go true b e d below = rw e (λ y m. front (ltb-true p (x .place) e) y (List·Memᴰ·cases-cons m), h)
     go false true e d below = rw (e, d) (λ y m. rw (eqb-true p (x .place) d) (h .0 y m), h .1)
@@ -104,7 +112,8 @@ parted-fits p bs u ok h f =
       from-one = f .from-one;
       num-below = f .num-below;
       few = omega (arith, places-few 1 (setPart p bs (u .parts)) (part-pairs p bs (u .parts) h) (λ y m. (each y m .from-one, each y m .place-below)) (omega arith));
-      each-fits = each }
+      each-fits = each;
+    }
   where
     each : (y : Part) → List·Memᴰ y (setPart p bs (u .parts)) → PartFits y
     each y m = elim (part-was p bs (u .parts) y m) [ inl e ↦ rw e ok | inr m′ ↦ f .each-fits y m′ ]
@@ -115,15 +124,19 @@ ups-parted {next} u p bs us a b l ok h =
       few = omega (arith, h .few, change-length (isUpload u) (withPart p bs) us);
       each-fits = λ y m. each y (changed-was (isUpload u) (withPart p bs) us y m);
       rise = change-pairs (isUpload u) (withPart p bs) Begun (λ x y _ r. r) (λ x y _ r. r) us (h .rise);
-      parts-rise = λ y m. rises y (changed-was (isUpload u) (withPart p bs) us y m) }
+      parts-rise = λ y m. rises y (changed-was (isUpload u) (withPart p bs) us y m);
+    }
   where
     Was : Upload → Type 0
     Was y = ((w : Upload) × (y ≡ withPart p bs w) × Found (isUpload u) us w) ⊎ List·Memᴰ y us
+
     fits : PartFits (part p bs)
     fits = record { from-one = a; place-below = b; short = l; of-bytes = ok }
+
     each : (y : Upload) → Was y → UploadFits next y
     each y (inl t) = rw (t .1) (parted-fits p bs (t .0) fits (h .parts-rise (t .0) (t .2 .there)) (h .each-fits (t .0) (t .2 .there)))
     each y (inr m) = h .each-fits y m
+
     rises : (y : Upload) → Was y → Pairs Earlier (y .parts)
     rises y (inl t) = rw (t .1) (part-pairs p bs (t .0 .parts) (h .parts-rise (t .0) (t .2 .there)))
     rises y (inr m) = h .parts-rise y m
