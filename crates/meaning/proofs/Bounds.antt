@@ -130,7 +130,7 @@ written s n r k p ok (by-put bs x name l bytes) = record { key-fits = name; body
 written s n r k p ok (by-remove e) =
     let (v, m) = current-there (at' k r) e in
     record { key-fits = key-at r ok k v m; body-fits = fresh-fits s Removed p (λ cs e. absurd (let z : _≡_ {A = ℕ} 0 1 = cc in omega arith)); uploads-ok = ups-later (omega arith) (ok .uploads-ok) }
-written s n r k p ok (by-complete u x y e d) =
+written s n r k p ok (by-complete u x y e some d) =
     let f : UploadFits (s .next) y = ok .uploads-ok .each-fits y (found (isUpload u) (r .uploads) y [] e .there) in
     record {
       key-fits = rw (← d) (f .key-fits);

@@ -1,16 +1,15 @@
 -- What calls do to the weight: only making a room, putting, beginning an upload, putting a part and removing the latest make it grow.
 -- Assumes nothing.
-use mathlib.Core.Path.{_≡_, refl, _∙_, ap}
-use mathlib.Core.Bool.{Bool, true, false, cond, not, _&&_}
+use mathlib.Core.Path.{_≡_, refl}
+use mathlib.Core.Bool.{Bool, true, false, cond, not}
 use mathlib.Core.List.{List, [], _∷_, map, List·Memᴰ, List·Memᴰ·head, List·Memᴰ·tail, List·Memᴰ·not-nil}
 use mathlib.Core.Logic.{_⊎_, inl, inr}
 use Prim.Native.Nat.{ℕ, _+_, _≤_, _<_}
 use native.Mathlib.Omega.{arith}
-use lib.Dec.{eqb}
 use Rattle.std.proofs.shelf.Tests.{cond-both}
 use Rattle.meaning.specs.Lists.{Name, keep, find, change, none, less}
-use Rattle.meaning.specs.Rooms.{Bytes, Version, Object, Upload, Room, State, blank, Expect, Call, Complete, Reply, Full, Out}
-use Rattle.meaning.specs.Does.{no, does, acts, isTick, small, inRoomOr, completes, unless-no, isRoom, isUpload, onTop, later, isObject, isHeld, isNum, bytesOf, versionsOf, at', setObject, joined, ruleFor, aged, kept, agedObjects, agedRoom}
+use Rattle.meaning.specs.Rooms.{Bytes, Version, Object, Upload, Room, State, blank, Call, Reply, Full, Out}
+use Rattle.meaning.specs.Does.{isRoom, isUpload, onTop, later, isObject, isHeld, isNum, bytesOf, versionsOf, at', setObject, joined, ruleFor, aged, kept, agedObjects, agedRoom}
 use Rattle.meaning.specs.Weights.{versionsWeight, objectsWeight, partsWeight, uploadsWeight, roomsWeight, weight}
 use Rattle.meaning.specs.Answers.{Answers, says-so, not-yet, too-full}
 use Rattle.meaning.specs.Laws.{Run, WeightGrows, FullOnly, Grows, making, putting, beginning, putting-a-part, removing-the-latest}
@@ -165,54 +164,35 @@ unfolding find none
 some-there f [] x e = absurd (none-one e)
 some-there f (y ∷ xs) x e = refl
 
--- if it completes an upload, that has parts
-abbrev Filled : Name → Room → Call → Type 0
-Filled n r c = (u : ℕ) (x : Expect) (y : Upload) → c ≡ Complete n u x → find (isUpload u) (r .uploads) ≡ y ∷ [] → none (y .parts) ≡ false
-
-sets-grows : {s : State} {n : Name} {r : Room} {k : Name} {c : Call} {reply : Reply} {next : ℕ} {us : List Upload} {vs : List Version} → Sets s n r k c reply next us vs → Sound r → Filled n r c →
+sets-grows : {s : State} {n : Name} {r : Room} {k : Name} {c : Call} {reply : Reply} {next : ℕ} {us : List Upload} {vs : List Version} → Sets s n r k c reply next us vs → Sound r →
     (objectsWeight (setObject k vs (r .objects)) + uploadsWeight us ≤ objectsWeight (r .objects) + uploadsWeight (r .uploads)) ⊎ Grows c
-sets-grows {n = n} {k = k} (new b (by-put bs x a l h) few) p f = inr (putting n k bs x)
-sets-grows {n = n} {k = k} (new b (by-remove there) few) p f = inr (removing-the-latest n k)
-sets-grows {s = s} {r = r} {k = k} (new b (by-complete u x y d e) few) p f = inl (complete-lighter s r p k u y d (f u x y refl d))
-sets-grows {n = n} {k = k} (gone a b) p f = inr (removing-the-latest n k)
-sets-grows {r = r} {k = k} (fewer num v z d h) p f =
+sets-grows {n = n} {k = k} (new b (by-put bs x a l h) few) p = inr (putting n k bs x)
+sets-grows {n = n} {k = k} (new b (by-remove there) few) p = inr (removing-the-latest n k)
+sets-grows {s = s} {r = r} {k = k} (new b (by-complete u x y d some e) few) p = inl (complete-lighter s r p k u y d some)
+sets-grows {n = n} {k = k} (gone a b) p = inr (removing-the-latest n k)
+sets-grows {r = r} {k = k} (fewer num v z d h) p =
     inl (omega (arith, thinner-set r p k (keep others-than (at' k r)) (some-there (isNum num) (at' k r) v d) (lighter (keep-thinned others-than (at' k r)) (plain-at r p k))))
   where
     others-than : Version → Bool
     others-than w = not (isNum (v .num) w)
-sets-grows {r = r} {k = k} (longer num until v small d h) p f =
+sets-grows {r = r} {k = k} (longer num until v ok d h) p =
     inl (omega (arith, thinner-set r p k (change (isNum num) (holdTo until) (at' k r)) (some-there (isNum num) (at' k r) v d) (omega (arith, held-weighs num until (at' k r)))))
 
-within-grows : {s : State} {n : Name} {r : Room} {c : Call} {reply : Reply} {next : ℕ} {q : Room} → Within s n r c reply next q → Sound r → Filled n r c → (roomWeight q ≤ roomWeight r) ⊎ Grows c
-within-grows (sets k w) p f = elim (sets-grows w p f) [ inl h ↦ inl (omega arith) | inr g ↦ inr g ]
-within-grows {n = n} (begun k ok few) p f = inr (beginning n k)
-within-grows {n = n} (parted u place bs a b l h) p f = inr (putting-a-part n u place bs)
-within-grows {r = r} (aborted u) p f = inl (omega (arith, others-lighter u (r .uploads)))
-within-grows (ruled rs few ok) p f = inl (omega arith)
-
--- an upload without parts isn't completed
-empty-refused : (s : State) (n : Name) (r : Room) (u : ℕ) (x : Expect) (y : Upload) → find (isRoom n) (s .rooms) ≡ r ∷ [] → find (isUpload u) (r .uploads) ≡ y ∷ [] → none (y .parts) ≡ true →
-    does (Complete n u x) s .state ≡ s
-unfolding acts inRoomOr completes unless-no
-empty-refused s n r u x y e d h =
-    cond-both (eqb (s .now) 0 && not (isTick (Complete n u x))) (no 10 s) _ (λ o. o .state ≡ s) (λ _. refl)
-    (λ _. cond-both (not (small (s .next)) && not (isTick (Complete n u x))) (no 8 s) _ (λ o. o .state ≡ s) (λ _. refl) (λ _. rw (e, d, h) refl))
+within-grows : {s : State} {n : Name} {r : Room} {c : Call} {reply : Reply} {next : ℕ} {q : Room} → Within s n r c reply next q → Sound r → (roomWeight q ≤ roomWeight r) ⊎ Grows c
+within-grows (sets k w) p = elim (sets-grows w p) [ inl h ↦ inl (omega arith) | inr g ↦ inr g ]
+within-grows {n = n} (begun k ok few) p = inr (beginning n k)
+within-grows {n = n} (parted u place bs a b l h) p = inr (putting-a-part n u place bs)
+within-grows {r = r} (aborted u) p = inl (omega (arith, others-lighter u (r .uploads)))
+within-grows (ruled rs few ok) p = inl (omega arith)
 
 -- where every room is sound, only these make the weight grow
-step-grows : {s : State} {c : Call} {o : Out} → Step s c o → o ≡ does c s → ((r : Room) → List·Memᴰ r (s .rooms) → Sound r) → weight s < weight (o .state) → Grows c
-step-grows (stands r h) e p l = absurd (omega arith)
-step-grows (made n k a b few) e p l = making n k
-step-grows {s = s} (dropped n r d h) e p l = absurd (omega (arith, without-lighter n (s .rooms)))
-step-grows {s = s} (told t h) e p l = absurd (omega (arith, told-lighter (later t (s .now)) (s .rooms) p))
-step-grows {s = s} {c = c} (within n r q d left w) e p l =
-    elim (within-grows w (p r (found (isRoom n) (s .rooms) r [] d .there)) filled) [ inl h ↦ absurd (omega (arith, rooms-changed n r q (s .rooms) d)) | inr g ↦ g ]
-  where
-    filled : Filled n r c
-    filled u x y f i = go (none (y .parts)) refl
-      where
-        go : (b : Bool) → none (y .parts) ≡ b → none (y .parts) ≡ false
-        go true h = absurd (omega (arith, ap weight (ap (λ (o : Out). o .state) e ∙ ap (λ (c : Call). does c s .state) f ∙ empty-refused s n r u x y d i h)))
-        go false h = h
+step-grows : {s : State} {c : Call} {o : Out} → Step s c o → ((r : Room) → List·Memᴰ r (s .rooms) → Sound r) → weight s < weight (o .state) → Grows c
+step-grows (stands r h) p l = absurd (omega arith)
+step-grows (made n k a b few) p l = making n k
+step-grows {s = s} (dropped n r d h) p l = absurd (omega (arith, without-lighter n (s .rooms)))
+step-grows {s = s} (told t h) p l = absurd (omega (arith, told-lighter (later t (s .now)) (s .rooms) p))
+step-grows {s = s} {c = c} (within n r q d left w) p l =
+    elim (within-grows w (p r (found (isRoom n) (s .rooms) r [] d .there))) [ inl h ↦ absurd (omega (arith, rooms-changed n r q (s .rooms) d)) | inr g ↦ g ]
 
 -- THE LAWS
 
@@ -220,7 +200,7 @@ sound : (s : State) → Good s → (r : Room) → List·Memᴰ r (s .rooms) → 
 sound s g r m = record { keys-rise = g .rooms-good r m .keys-rise; numbered = λ o i v j. g .fits .rooms-fit r m .objects-fit o i .each-fits v j .numbered }
 
 pub weight-grows : WeightGrows
-weight-grows s c run l = step-grows (steps c s) refl (sound s (good run)) l
+weight-grows s c run l = step-grows (steps c s) (sound s (good run)) l
 
 full-grows : (can : Call → Bool) (size : ℕ) {c : Call} {s t : State} {r : Reply} → Answers can size c s r t → Run blank s → r ≡ Full → Grows c
 full-grows can size (says-so c s built) run e = absurd (never-full c s e)

@@ -130,7 +130,7 @@ module _ (s : State) (n k : Name) (r : Room) (e : find (isRoom n) (s .rooms) ≡
   writes-may : {c : Call} {us : List Upload} {b : Body} → r .keeps ≡ false → Writes n r k c us b → MayGo s n k v c
   writes-may keeps (by-put bs x name l ok) = by-newer bs x (rw e keeps)
   writes-may keeps (by-remove there) = by-removing (rw e keeps)
-  writes-may keeps (by-complete u x y d key) = let f = found (isUpload u) (r .uploads) y [] d in rw (eqb-true u (y .num) (f .passes)) (by-upload x y (rw e (f .there)) key (rw e keeps))
+  writes-may keeps (by-complete u x y d some key) = let f = found (isUpload u) (r .uploads) y [] d in rw (eqb-true u (y .num) (f .passes)) (by-upload x y (rw e (f .there)) key (rw e keeps))
 
   top-stays : {c : Call} {us : List Upload} {b : Body} → Writes n r k c us b → List·Memᴰ v (at' k r) → Fate s n k v c (s .now) (onTop (s .now) (r .keeps) (fresh s b) (at' k r))
   top-stays {c} {us} {b} w m = go (r .keeps) (isHeld (s .now) v) refl refl

@@ -38,7 +38,7 @@ withRules rs r = record { name = r .name; keeps = r .keeps; rules = rs; objects 
 pub data Writes (n : Name) (r : Room) (k : Name) : Call → List Upload → Body → Type 0 where
   by-put : (bs : List ℕ) (x : Expect) → T (nameOk k) → length bs ≤ 5242880 → T (bytes bs) → Writes n r k (Put n k bs x) (r .uploads) (Bytes bs)
   by-remove : none (current (at' k r)) ≡ false → Writes n r k (Remove n k 0) (r .uploads) Removed
-  by-complete : (u : ℕ) (x : Expect) (y : Upload) → find (isUpload u) (r .uploads) ≡ y ∷ [] → y .key ≡ k → Writes n r k (Complete n u x) (others u (r .uploads)) (Bytes (joined (y .parts)))
+  by-complete : (u : ℕ) (x : Expect) (y : Upload) → find (isUpload u) (r .uploads) ≡ y ∷ [] → none (y .parts) ≡ false → y .key ≡ k → Writes n r k (Complete n u x) (others u (r .uploads)) (Bytes (joined (y .parts)))
 
 -- the calls that set the versions of a key: the reply, the next number, the uploads and the versions that are left
 pub data Sets (s : State) (n : Name) (r : Room) (k : Name) : Call → Reply → ℕ → List Upload → List Version → Type 0 where
@@ -162,8 +162,8 @@ module _ (s : State) (left : s .next < 4611686018427387904) where
   remove-steps n k num =
       inside n _ λ r e.
       cond-both (eqb num 0) _ _ (Step s (Remove n k num))
-        (λ z. rw (eqb-true num 0 z) (latest r e))
-        (λ z. at-find (isNum num) (λ vs. Step s (Remove n k num) (removesOne n k vs r s)) (at' k r) (λ _. refused 2 s) (λ v d. one r e (eqb-false num 0 z) v d))
+      (λ z. rw (eqb-true num 0 z) (latest r e))
+      (λ z. at-find (isNum num) (λ vs. Step s (Remove n k num) (removesOne n k vs r s)) (at' k r) (λ _. refused 2 s) (λ v d. one r e (eqb-false num 0 z) v d))
     where
       one : (r : Room) → find (isRoom n) (s .rooms) ≡ r ∷ [] → (num ≡ 0 → ⊥) → (v : Version) → find (isNum num) (at' k r) ≡ v ∷ [] → Step s (Remove n k num) (removesOne n k (v ∷ []) r s)
       one r e z v d = guard (isHeld (s .now) v) _ _ λ h. changes s n r _ e left (sets k (fewer num v z d h))
@@ -173,8 +173,8 @@ module _ (s : State) (left : s .next < 4611686018427387904) where
           guard (none (current (at' k r))) _ _ λ there.
           guard (leb 1024 (length (at' k r))) _ _ λ few.
           cond-both (r .keeps || some (isHeld (s .now)) (at' k r)) _ _ (Step s (Remove n k 0))
-            (λ _. changes s n r _ e left (sets k (new Removed (by-remove there) (leb-false 1024 (length (at' k r)) few))))
-            (λ h. let (a, b) = or-parts (r .keeps) (some (isHeld (s .now)) (at' k r)) h in changes s n r _ e left (sets k (gone a b)))
+          (λ _. changes s n r _ e left (sets k (new Removed (by-remove there) (leb-false 1024 (length (at' k r)) few))))
+          (λ h. let (a, b) = or-parts (r .keeps) (some (isHeld (s .now)) (at' k r)) h in changes s n r _ e left (sets k (gone a b)))
 
   begin-steps : (n k : Name) → Step s (Begin n k) (acts (Begin n k) s)
   unfolding acts
@@ -226,12 +226,12 @@ module _ (s : State) (left : s .next < 4611686018427387904) where
   complete-steps n u x =
       inside n _ λ r e.
       at-find (isUpload u) (λ us. After (completes n u x us r s)) (r .uploads) (λ _. refused 2 s) λ y d.
-      cond-both (none (y .parts) || not (gapless 1 (y .parts))) (no 7 s) _ After (λ _. refused 7 s) λ _.
+      cond-both (none (y .parts) || not (gapless 1 (y .parts))) (no 7 s) _ After (λ _. refused 7 s) λ whole.
       put-in n (y .key) (joined (y .parts)) x r s After (λ j. refused j s) λ few.
       -- first the object is set, then the upload goes: the room is changed twice
       let q : Room = withObjects (setObject (y .key) (onTop (s .now) (r .keeps) (fresh s (Bytes (joined (y .parts)))) (at' (y .key) r)) (r .objects)) r in
       rw (change-as (isRoom n) (withObjects (q .objects)) (s .rooms) r e, change-again (isRoom n) (λ (z : Room). withUploads (others u (z .uploads)) z) q (s .rooms) (found (isRoom n) (s .rooms) r [] e .passes))
-        (within n r _ e left (sets (y .key) (new (Bytes (joined (y .parts))) (by-complete u x y d refl) few)))
+      (within n r _ e left (sets (y .key) (new (Bytes (joined (y .parts))) (by-complete u x y d (or-parts (none (y .parts)) (not (gapless 1 (y .parts))) whole .0) refl) few)))
     where
       After : Out → Type 0
       After o = Step s (Complete n u x) (unless-no n u o)
