@@ -6,6 +6,7 @@ pub mod Steps
 pub mod Heaps
 pub mod Uploads
 pub mod Moves
+pub mod Began
 pub mod Bounds
 pub mod Tells
 pub mod Stays
