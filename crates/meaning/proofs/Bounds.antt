@@ -1,26 +1,27 @@
 -- `good`: the invariant holds of every state that calls lead to, so nothing outgrows its bound.
 -- Assumes nothing.
-use mathlib.Core.Path.{_≡_, refl, sym, _∙_, ap, subst}
-use mathlib.Core.Bool.{Bool, true, false, cond, _&&_, _||_, not}
-use mathlib.Core.List.{List, [], _∷_, _++_, map, List·Memᴰ, List·Memᴰ·head, List·Memᴰ·tail, List·Memᴰ·cases-cons, List·Memᴰ·not-nil, List·Memᴰ·append-cases, List·Memᴰ·eq-of-singleton, Memᴰ·of-map}
+use mathlib.Core.Path.{_≡_, refl, sym, _∙_, subst}
+use mathlib.Core.Bool.{Bool, false, not}
+use mathlib.Core.List.{List, [], _∷_, _++_, List·Memᴰ, List·Memᴰ·head, List·Memᴰ·not-nil, List·Memᴰ·append-cases, List·Memᴰ·eq-of-singleton, Memᴰ·of-map}
 use mathlib.Core.Logic.{_⊎_, inl, inr}
-use Prim.Native.Nat.{ℕ, suc, _<_, _≤_, _+_}
+use Prim.Native.Nat.{ℕ, _<_, _≤_, _+_}
 use native.Mathlib.Omega.{arith}
 use lib.Dec.{T, ltb}
 use lib.ListN.{length, length-append, length-map}
 use Rattle.std.proofs.shelf.Tests.{cond-both, ltb-true, true≢false, false≢true}
-use Rattle.meaning.specs.Lists.{Name, some, every, keep, find, change, none, same}
-use Rattle.meaning.specs.Rooms.{Body, Bytes, Removed, Version, Object, Upload, Rule, Room, State, blank, Call, Reply, Out}
-use Rattle.meaning.specs.Does.{does, isRoom, isObject, isNum, isHeld, versionsOf, at', setObject, withObjects, withUploads, current, joined, isUpload, ruleFor, aged, agedRoom, agedObjects, later, ticked, small, nameOk, ruleOk, bytes}
-use Rattle.meaning.specs.Laws.{Run, still, onward, fell, versionsIn, keepsOf, VersionFits, ObjectFits, UploadFits, RoomFits, Fits, StaysInBounds}
-use Rattle.meaning.proofs.Good.{Pairs, Apart, Before, Over, RoomGood, Once, Good}
-use Rattle.meaning.proofs.Names.{so, same-eq, same-from}
+use Rattle.meaning.specs.Lists.{Name, some, every, find, change, none}
+use Rattle.meaning.specs.Rooms.{Body, Bytes, Removed, Version, Object, Upload, Room, State, blank, Call, Reply, Out}
+use Rattle.meaning.specs.Does.{does, isRoom, isObject, isNum, versionsOf, at', setObject, withObjects, withUploads, current, joined, isUpload, ruleFor, agedRoom, agedObjects, later, ticked, small, nameOk, ruleOk, bytes}
+use Rattle.meaning.specs.Laws.{Run, still, onward, fell, versionsIn, keepsOf, VersionFits, UploadFits, RoomFits, StaysInBounds}
+use Rattle.meaning.proofs.Good.{Pairs, Apart, Before, RoomGood, Once, UploadsOnce, Good}
+use Rattle.meaning.proofs.Names.{same-eq, same-from}
 use Rattle.meaning.proofs.Finds.{Found, found, found-or-none, kept-was, keep-pairs, keep-length, changed-was, change-pairs, change-length, pairs-pushed, mapped-pairs, not-some}
 use Rattle.meaning.proofs.Objects.{under, set-was, set-pairs, aged-was, aged-pairs}
-use Rattle.meaning.proofs.Steps.{fresh, others, Writes, by-put, by-remove, by-complete, Sets, new, gone, fewer, longer, Within, sets, begun, parted, aborted, ruled, Step, stands, made, dropped, told, within, emptyRoom, without, steps}
+use Rattle.meaning.proofs.Steps.{fresh, Writes, by-put, by-remove, by-complete, Sets, new, gone, fewer, longer, Within, sets, begun, parted, aborted, ruled, Step, stands, made, dropped, told, within, within-named, emptyRoom, without, steps}
 use Rattle.meaning.proofs.Heaps.{Heap, heap-none, heap-later, heap-keep, heap-longer, heap-on-top, heap-aged}
 use Rattle.meaning.proofs.Uploads.{Ups, ups-later, ups-others, ups-begun, ups-parted, joined-bytes, joined-length}
-use Rattle.meaning.proofs.Moves.{Moves, Spot, moves, versions-found, Like, Origin, was, came, marks, origin}
+use Rattle.meaning.proofs.Began.{UploadOrigin, was-there, began, UploadSpot, uploads-from}
+use Rattle.meaning.proofs.Moves.{Spot, moves, Origin, was, came, marks, origin}
 
 -- THE SAME BY PARTS: what fits and what is in order, together for each object and each room
 
@@ -139,7 +140,6 @@ written s n r k p ok (by-complete u x y e some d) =
     }
 
 pub record RoomStep (s : State) (r : Room) (next : ℕ) (q : Room) : Type 0 where
-  pub named : q .name ≡ r .name
   pub no-less : s .next ≤ next
   pub one-more : next ≤ s .next + 1
   pub ok : RoomOk (s .now) next q
@@ -147,21 +147,20 @@ pub record RoomStep (s : State) (r : Room) (next : ℕ) (q : Room) : Type 0 wher
 sets-ok : (s : State) (n : Name) (r : Room) (k : Name) {c : Call} {reply : Reply} {next : ℕ} {us : List Upload} {vs : List Version} → 1 ≤ s .next → RoomOk (s .now) (s .next) r → Sets s n r k c reply next us vs → RoomStep s r next (withUploads us (withObjects (setObject k vs (r .objects)) r))
 sets-ok s n r k {us = us} p ok (new b w l) =
     let h = written s n r k p ok w in
-    record { named = refl; no-less = omega arith; one-more = omega arith; ok = set-ok r k _ us (omega arith) ok (heap-on-top (r .keeps) (fresh s b) (at' k r) (h .body-fits) refl refl l (heap-at r ok k)) (λ _ _ _. h .key-fits) (h .uploads-ok) }
-sets-ok s n r k p ok (gone a b) = record { named = refl; no-less = omega arith; one-more = omega arith; ok = set-ok r k [] (r .uploads) (omega arith) ok (heap-none _ _ _) (λ v ws e. absurd (let z : _≡_ {A = ℕ} 0 1 = cc in omega arith)) (ok .uploads-ok) }
+    record { no-less = omega arith; one-more = omega arith; ok = set-ok r k _ us (omega arith) ok (heap-on-top (r .keeps) (fresh s b) (at' k r) (h .body-fits) refl refl l (heap-at r ok k)) (λ _ _ _. h .key-fits) (h .uploads-ok) }
+sets-ok s n r k p ok (gone a b) = record { no-less = omega arith; one-more = omega arith; ok = set-ok r k [] (r .uploads) (omega arith) ok (heap-none _ _ _) (λ v ws e. absurd (let z : _≡_ {A = ℕ} 0 1 = cc in omega arith)) (ok .uploads-ok) }
 sets-ok s n r k p ok (fewer num v z e f) =
-    record { named = refl; no-less = omega arith; one-more = omega arith; ok = set-ok r k _ (r .uploads) (omega arith) ok (heap-keep _ (at' k r) (heap-at r ok k)) (λ _ _ _. key-at r ok k v (found (isNum num) (at' k r) v [] e .there)) (ok .uploads-ok) }
+    record { no-less = omega arith; one-more = omega arith; ok = set-ok r k _ (r .uploads) (omega arith) ok (heap-keep _ (at' k r) (heap-at r ok k)) (λ _ _ _. key-at r ok k v (found (isNum num) (at' k r) v [] e .there)) (ok .uploads-ok) }
 sets-ok s n r k p ok (longer num until v t e f) =
-    record { named = refl; no-less = omega arith; one-more = omega arith; ok = set-ok r k _ (r .uploads) (omega arith) ok (heap-longer num until v (at' k r) t e f (heap-at r ok k)) (λ _ _ _. key-at r ok k v (found (isNum num) (at' k r) v [] e .there)) (ok .uploads-ok) }
+    record { no-less = omega arith; one-more = omega arith; ok = set-ok r k _ (r .uploads) (omega arith) ok (heap-longer num until v (at' k r) t e f (heap-at r ok k)) (λ _ _ _. key-at r ok k v (found (isNum num) (at' k r) v [] e .there)) (ok .uploads-ok) }
 
 within-ok : (s : State) (n : Name) (r : Room) {c : Call} {reply : Reply} {next : ℕ} {q : Room} → 1 ≤ s .next → RoomOk (s .now) (s .next) r → Within s n r c reply next q → RoomStep s r next q
 within-ok s n r p ok (sets k h) = sets-ok s n r k p ok h
-within-ok s n r p ok (begun k name l) = record { named = refl; no-less = omega arith; one-more = omega arith; ok = uploads-ok-with r _ (omega arith) ok (ups-begun k (r .uploads) p name l (ok .uploads-ok)) }
-within-ok s n r p ok (parted u i bs a b l bytes) = record { named = refl; no-less = omega arith; one-more = omega arith; ok = uploads-ok-with r _ (omega arith) ok (ups-parted u i bs (r .uploads) a b l bytes (ok .uploads-ok)) }
-within-ok s n r p ok (aborted u) = record { named = refl; no-less = omega arith; one-more = omega arith; ok = uploads-ok-with r _ (omega arith) ok (ups-others u (r .uploads) (ok .uploads-ok)) }
+within-ok s n r p ok (begun k name l) = record { no-less = omega arith; one-more = omega arith; ok = uploads-ok-with r _ (omega arith) ok (ups-begun k (r .uploads) p name l (ok .uploads-ok)) }
+within-ok s n r p ok (parted u i bs a b l bytes) = record { no-less = omega arith; one-more = omega arith; ok = uploads-ok-with r _ (omega arith) ok (ups-parted u i bs (r .uploads) a b l bytes (ok .uploads-ok)) }
+within-ok s n r p ok (aborted u) = record { no-less = omega arith; one-more = omega arith; ok = uploads-ok-with r _ (omega arith) ok (ups-others u (r .uploads) (ok .uploads-ok)) }
 within-ok s n r p ok (ruled rs few fit) =
     record {
-      named = refl;
       no-less = omega arith;
       one-more = omega arith;
       ok = record { name-fits = ok .name-fits; few-rules = few; rules-fit = fit; uploads-ok = ok .uploads-ok; keys-rise = ok .keys-rise; objects-ok = ok .objects-ok };
@@ -209,13 +208,14 @@ house g =
       rooms-ok = λ r m. room-ok (g .fits .rooms-fit r m) (g .rooms-good r m);
     }
 
-good-house : {s : State} → House s → Once s → Good s
-good-house h o =
+good-house : {s : State} → House s → Once s → UploadsOnce s → Good s
+good-house h o u =
     record {
       fits = record { few-rooms = h .few-rooms; now-small = h .now-small; next-from-one = h .next-from-one; next-bounded = h .next-bounded; rooms-fit = λ r m. room-fits (h .rooms-ok r m) };
       rooms-apart = h .rooms-apart;
       rooms-good = λ r m. room-good (h .rooms-ok r m);
       once = o;
+      uploads-once = u;
     }
 
 pub later-now : (t now : ℕ) → now ≤ later t now
@@ -270,8 +270,8 @@ told-house s t p h =
       rooms-ok = λ r m. let (x, there, e) = Memᴰ·of-map (agedRoom (later t (s .now))) (s .rooms) m in rw (← e) (aged-ok x (later-now t (s .now)) (h .next-from-one) (h .rooms-ok x there));
     }
 
-within-house : (s : State) (n : Name) (r q : Room) (next : ℕ) → find (isRoom n) (s .rooms) ≡ r ∷ [] → s .next < 4611686018427387904 → House s → RoomStep s r next q → House (record { now = s .now; next = next; rooms = change (isRoom n) (λ _. q) (s .rooms) })
-within-house s n r q next e left h w =
+within-house : (s : State) (n : Name) (r q : Room) (next : ℕ) → find (isRoom n) (s .rooms) ≡ r ∷ [] → s .next < 4611686018427387904 → House s → q .name ≡ r .name → RoomStep s r next q → House (record { now = s .now; next = next; rooms = change (isRoom n) (λ _. q) (s .rooms) })
+within-house s n r q next e left h named w =
     record {
       few-rooms = omega (arith, change-length (isRoom n) (λ _. q) (s .rooms), h .few-rooms);
       now-small = h .now-small;
@@ -282,7 +282,7 @@ within-house s n r q next e left h w =
     }
   where
     same-q : n ≡ q .name
-    same-q = same-eq n (r .name) (found (isRoom n) (s .rooms) r [] e .passes) ∙ sym (w .named)
+    same-q = same-eq n (r .name) (found (isRoom n) (s .rooms) r [] e .passes) ∙ sym named
 
     each : (x : Room) → ((y : Room) × (x ≡ q) × Found (isRoom n) (s .rooms) y) ⊎ List·Memᴰ x (s .rooms) → RoomOk (s .now) next x
     each x (inl t) = rw (t .1) (w .ok)
@@ -293,7 +293,7 @@ house-step s h (stands reply i) = h
 house-step s h (made n keeps name free few) = made-house s n keeps name free few h
 house-step s h (dropped n r e none) = dropped-house s n h
 house-step s h (told t p) = told-house s t p h
-house-step s h (within n r q e left w) = within-house s n r q _ e left h (within-ok s n r (h .next-from-one) (h .rooms-ok r (found (isRoom n) (s .rooms) r [] e .there)) w)
+house-step s h (within n r q e left w) = within-house s n r q _ e left h (within-named s n r w) (within-ok s n r (h .next-from-one) (h .rooms-ok r (found (isRoom n) (s .rooms) r [] e .there)) w)
 
 -- NUMBERS
 
@@ -320,8 +320,27 @@ once-step s g spot n m k l v w i j one e = go (origin s _ _ n k (spot .moves n k
     go (came a b d) (marks z) = absurd (omega arith)
     go (marks z) o = absurd (omega arith)
 
+-- the same of uploads
+uploads-step : (s : State) {c : Call} {o : Out} → Good s → Spot s c o → UploadSpot s (o .state) → UploadsOnce (o .state)
+uploads-step s {c} {o} g spot ups = record { one-room = λ r q u w m n i j e. rooms r q u w e (ups .from r u m i) (ups .from q w n j); no-version = λ r u n k v m i j e. apart r u n k v j e (ups .from r u m i) (origin s _ _ n k (spot .moves n k) v j) }
+  where
+    fits : (r : Room) (u : Upload) → List·Memᴰ r (s .rooms) → List·Memᴰ u (r .uploads) → UploadFits (s .next) u
+    fits r u m i = house g .rooms-ok r m .uploads-ok .each-fits u i
+
+    rooms : (r q : Room) (u w : Upload) → u .num ≡ w .num → UploadOrigin s (o .state) (ups .room) r u → UploadOrigin s (o .state) (ups .room) q w → r .name ≡ q .name
+    rooms r q u w e (was-there r₀ u₀ m i a b) (was-there q₀ w₀ n j a′ b′) = sym a ∙ g .uploads-once .one-room r₀ q₀ u₀ w₀ m n i j (sym b ∙ e ∙ b′) ∙ a′
+    rooms r q u w e (was-there r₀ u₀ m i a b) (began a′ b′ quiet) = absurd (omega (arith, fits r₀ u₀ m i .num-below))
+    rooms r q u w e (began a b quiet) (was-there q₀ w₀ n j a′ b′) = absurd (omega (arith, fits q₀ w₀ n j .num-below))
+    rooms r q u w e (began a b quiet) (began a′ b′ quiet′) = a ∙ sym a′
+
+    apart : (r : Room) (u : Upload) (n k : Name) (v : Version) → List·Memᴰ v (versionsIn n k (o .state)) → u .num ≡ v .num → UploadOrigin s (o .state) (ups .room) r u → Origin s (spot .room) (spot .key) n k v → ⊥
+    apart r u n k v j e (was-there r₀ u₀ m i a b) (was v₀ j₀ p) = g .uploads-once .no-version r₀ u₀ n k v₀ m i j₀ (sym b ∙ e ∙ p .num)
+    apart r u n k v j e (was-there r₀ u₀ m i a b) (came x y d) = omega (arith, fits r₀ u₀ m i .num-below)
+    apart r u n k v j e (was-there r₀ u₀ m i a b) (marks z) = omega (arith, fits r₀ u₀ m i .from-one)
+    apart r u n k v j e (began a b quiet) origin = omega (arith, heap-in s g n k .each-fits v (subst (List·Memᴰ v) (quiet n k) j) .num-below)
+
 pub good-step : (c : Call) (s : State) → Good s → Good (does c s .state)
-good-step c s g = good-house (house-step s (house g) (steps c s)) (once-step s g (moves s g (steps c s)))
+good-step c s g = let spot = moves s g (steps c s) in good-house (house-step s (house g) (steps c s)) (once-step s g spot) (uploads-step s g spot (uploads-from s (steps c s)))
 
 pub good-run : {s t : State} → Good s → Run s t → Good t
 good-run g still = g
@@ -333,6 +352,7 @@ unfolding find
 good-blank =
     good-house (record { few-rooms = omega arith; now-small = tt; next-from-one = omega arith; next-bounded = omega arith; rooms-apart = tt; rooms-ok = λ r m. absurd (List·Memᴰ·not-nil m) })
     (λ n m k l v w i j. absurd (List·Memᴰ·not-nil i))
+    (record { one-room = λ r q u w m. absurd (List·Memᴰ·not-nil m); no-version = λ r u n k v m. absurd (List·Memᴰ·not-nil m) })
 
 pub good : {s : State} → Run blank s → Good s
 good run = good-run good-blank run

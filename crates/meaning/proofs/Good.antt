@@ -3,7 +3,7 @@
 use mathlib.Core.Path.{_≡_}
 use mathlib.Core.Bool.{Bool, true, false}
 use mathlib.Core.List.{List, [], _∷_, List·Memᴰ}
-use Prim.Native.Nat.{ℕ, _<_, _≤_}
+use Prim.Native.Nat.{_<_, _≤_}
 use Rattle.meaning.specs.Lists.{Name, less}
 use Rattle.meaning.specs.Rooms.{Version, Object, Part, Upload, Room, State}
 use Rattle.meaning.specs.Laws.{Fits, versionsIn}
@@ -37,12 +37,18 @@ pub record RoomGood (r : Room) : Type 0 where
   pub uploads-rise : Pairs Begun (r .uploads)
   pub parts-rise : (u : Upload) → List·Memᴰ u (r .uploads) → Pairs Earlier (u .parts)
 
--- where a number is: in one room, under one key
+-- a version's number is in one room, under one key
 abbrev pub Once : State → Type 0
 Once s = (n m k l : Name) (v w : Version) → List·Memᴰ v (versionsIn n k s) → List·Memᴰ w (versionsIn m l s) → 1 ≤ v .num → v .num ≡ w .num → (n ≡ m) × (k ≡ l)
+
+-- an upload's number is in one room, and no version has it
+pub record UploadsOnce (s : State) : Type 0 where
+  pub one-room : (r q : Room) (u w : Upload) → List·Memᴰ r (s .rooms) → List·Memᴰ q (s .rooms) → List·Memᴰ u (r .uploads) → List·Memᴰ w (q .uploads) → u .num ≡ w .num → r .name ≡ q .name
+  pub no-version : (r : Room) (u : Upload) (n k : Name) (v : Version) → List·Memᴰ r (s .rooms) → List·Memᴰ u (r .uploads) → List·Memᴰ v (versionsIn n k s) → u .num ≡ v .num → ⊥
 
 pub record Good (s : State) : Type 0 where
   pub fits : Fits s
   pub rooms-apart : Pairs Apart (s .rooms)
   pub rooms-good : (r : Room) → List·Memᴰ r (s .rooms) → RoomGood r
   pub once : Once s
+  pub uploads-once : UploadsOnce s

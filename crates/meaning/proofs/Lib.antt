@@ -11,6 +11,7 @@ pub mod Steps
 pub mod Heaps
 pub mod Uploads
 pub mod Moves
+pub mod Began
 pub mod Bounds
 pub mod Tells
 pub mod Stays

@@ -1,22 +1,21 @@
 -- How the versions of a key may move by a call: at most at one key of one room they are set, or rules age them, or they stay.
 -- Assumes nothing.
 use mathlib.Core.Path.{_≡_, refl, sym, _∙_, ap, subst}
-use mathlib.Core.Bool.{Bool, true, false, cond, _&&_, _||_, not}
-use mathlib.Core.List.{List, [], _∷_, _++_, map, List·Memᴰ, List·Memᴰ·head, List·Memᴰ·tail, List·Memᴰ·cases-cons, List·Memᴰ·not-nil}
+use mathlib.Core.Bool.{Bool, true, false, cond, not}
+use mathlib.Core.List.{List, [], _∷_, _++_, map, List·Memᴰ, List·Memᴰ·cases-cons, List·Memᴰ·not-nil}
 use mathlib.Core.Logic.{_⊎_, inl, inr}
-use Prim.Native.Nat.{ℕ, suc, _<_, _≤_, _+_}
+use Prim.Native.Nat.{ℕ, _≤_, _+_}
 use native.Mathlib.Omega.{arith}
-use lib.ListN.{length}
-use Rattle.std.proofs.shelf.Tests.{cond-both, both-ways, not-true, not-from-false}
+use Rattle.std.proofs.shelf.Tests.{not-true, not-from-false}
 use Rattle.meaning.specs.Lists.{Name, keep, find, change, same}
-use Rattle.meaning.specs.Rooms.{Body, Version, Object, Upload, Rule, Room, State, Call, Tick, Reply, Out}
-use Rattle.meaning.specs.Does.{isRoom, isObject, isNum, isHeld, versionsOf, at', setObject, withObjects, withUploads, onTop, oldKept, tidy, covered, aged, ruleFor, agedRoom, agedObjects, later, ticked}
+use Rattle.meaning.specs.Rooms.{Body, Version, Upload, Room, State, Call, Tick, Reply, Out}
+use Rattle.meaning.specs.Does.{isRoom, isObject, isNum, isHeld, versionsOf, at', setObject, withObjects, withUploads, aged, ruleFor, agedRoom, later, ticked}
 use Rattle.meaning.specs.Laws.{versionsIn}
-use Rattle.meaning.proofs.Good.{Pairs, Before, RoomGood, Good}
-use Rattle.meaning.proofs.Names.{same-eq, same-from, same-refl, same-unlike, same-not}
+use Rattle.meaning.proofs.Good.{Pairs, Before, Good}
+use Rattle.meaning.proofs.Names.{same-eq, same-unlike, same-not}
 use Rattle.meaning.proofs.Finds.{Found, found, found-or-none, kept-was, changed-was, find-changed, find-unchanged, find-kept, find-nothing, find-pushed, find-mapped}
-use Rattle.meaning.proofs.Objects.{found-set, found-elsewhere, found-aged, aged-none}
-use Rattle.meaning.proofs.Steps.{Silent, fresh, holdTo, Writes, Sets, new, gone, fewer, longer, Within, Step, stands, made, dropped, told, within, sets, begun, parted, aborted, ruled, emptyRoom, without}
+use Rattle.meaning.proofs.Objects.{found-set, found-elsewhere, found-aged}
+use Rattle.meaning.proofs.Steps.{fresh, holdTo, Sets, new, gone, fewer, longer, Within, Step, stands, made, dropped, told, within, sets, begun, parted, aborted, ruled, emptyRoom, without}
 use Rattle.meaning.proofs.Heaps.{aged-was-or-mark, higher-left}
 
 -- now: the time after the call; room and key: the one place where versions may be set
@@ -93,7 +92,7 @@ told-moves s t g n k = go (found-or-none (isRoom n) (s .rooms))
     go (inr h) = rw (left (h .0) (h .1)) (ages t (h .0) refl (h .1))
 
 -- a room in the place of the one of its name
-replaced : State → ℕ → Name → Room → State
+abbrev pub replaced : State → ℕ → Name → Room → State
 replaced s next n q = record { now = s .now; next = next; rooms = change (isRoom n) (λ _. q) (s .rooms) }
 
 module _ (s : State) (n : Name) (r q : Room) (e : find (isRoom n) (s .rooms) ≡ r ∷ []) (named : q .name ≡ r .name) (next : ℕ) where
@@ -101,15 +100,13 @@ module _ (s : State) (n : Name) (r q : Room) (e : find (isRoom n) (s .rooms) ≡
   is-there = rw named (found (isRoom n) (s .rooms) r [] e .passes)
 
   replaced-here : (k : Name) → versionsIn n k (replaced s next n q) ≡ at' k q
-  unfolding replaced
   replaced-here k = versions-found n k (replaced s next n q) q (find-changed (isRoom n) q (s .rooms) r e is-there)
 
   replaced-elsewhere : (m k : Name) → (m ≡ n → ⊥) → versionsIn m k (replaced s next n q) ≡ versionsIn m k s
-  unfolding replaced
   replaced-elsewhere m k d = versions-same m k s (replaced s next n q) (find-unchanged (isRoom n) (isRoom m) q (λ z i. same-unlike m (z .name) (λ x. d (x ∙ sym (same-eq n (z .name) i)))) (same-unlike m (q .name) (λ x. d (x ∙ sym (same-eq n (q .name) is-there)))) (s .rooms))
 
   -- where the objects stay, nothing moves
-  replaced-same : q .objects ≡ r .objects → (m k : Name) → versionsIn m k (replaced s next n q) ≡ versionsIn m k s
+  pub replaced-same : q .objects ≡ r .objects → (m k : Name) → versionsIn m k (replaced s next n q) ≡ versionsIn m k s
   replaced-same o m k = go (same m n) refl
     where
       go : (b : Bool) → same m n ≡ b → versionsIn m k (replaced s next n q) ≡ versionsIn m k s
@@ -129,7 +126,6 @@ set-moves {c} {next} {us} {vs} s n r k rise e h m l = go (same m n) (same l k) r
     go false b i j = unmoved (replaced-elsewhere s n r q e refl next m l (same-not m n i))
 
 within-moves : (s : State) (n : Name) (r : Room) {c : Call} {reply : Reply} {next : ℕ} (q : Room) → Good s → find (isRoom n) (s .rooms) ≡ r ∷ [] → Within s n r c reply next q → Spot s c (record { reply = reply; state = replaced s next n q })
-unfolding replaced
 within-moves s n r q g e (sets k h) = record { room = n; key = k; moves = set-moves s n r k (g .rooms-good r (found (isRoom n) (s .rooms) r [] e .there) .keys-rise) e h }
 within-moves s n r q g e (begun k ok few) = nowhere (replaced-same s n r _ e refl (s .next + 1) refl)
 within-moves s n r q g e (parted u p bs a b l ok) = nowhere (replaced-same s n r _ e refl (s .next) refl)
@@ -137,7 +133,6 @@ within-moves s n r q g e (aborted u) = nowhere (replaced-same s n r _ e refl (s 
 within-moves s n r q g e (ruled rs few ok) = nowhere (replaced-same s n r _ e refl (s .next) refl)
 
 pub moves : (s : State) {c : Call} {o : Out} → Good s → Step s c o → Spot s c o
-unfolding replaced
 moves s g (stands reply h) = nowhere (λ n k. refl)
 moves s g (made n keeps ok free few) = nowhere (made-moves s n keeps)
 moves s g (dropped n r e none) = nowhere (dropped-moves s n r e none)

@@ -1,14 +1,13 @@
 -- The order of names is strict and total: two names of which none is less are one name.
 -- Assumes nothing.
-use mathlib.Core.Path.{_≡_, refl, sym, _∙_, ap, ap₂}
-use mathlib.Core.Bool.{Bool, true, false, cond, _&&_, _||_, not}
-use mathlib.Core.List.{List, [], _∷_}
+use mathlib.Core.Path.{_≡_, refl, sym, _∙_, ap₂}
+use mathlib.Core.Bool.{Bool, true, false, _&&_, not}
+use mathlib.Core.List.{[], _∷_}
 use mathlib.Core.Logic.{_⊎_, inl, inr}
-use Prim.Native.Nat.{ℕ, _<_, _≤_}
+use Prim.Native.Nat.{ℕ, _<_}
 use native.Mathlib.Omega.{arith}
 use lib.Dec.{eqb, ltb, T}
-use Rattle.std.proofs.shelf.Tests.{both-ways, ltb-true, ltb-false, eqb-true, eq-eqb, lt-ltb, or-cases, or-parts, and-parts, or-left, or-right, and-from, and-cases, not-true, not-from-false, false≢true, true≢false}
-use Rattle.std.proofs.shelf.Ways.{tells}
+use Rattle.std.proofs.shelf.Tests.{both-ways, ltb-true, ltb-false, eqb-true, eq-eqb, lt-ltb, or-cases, or-parts, and-parts, or-left, or-right, and-from, not-true, false≢true, true≢false}
 use Rattle.meaning.specs.Lists.{Name, less, same}
 
 -- a test that is true, as a type, and back

@@ -1,18 +1,17 @@
 -- What a room has under a key after an object was set, and after rules took things away.
 -- Assumes nothing.
-use mathlib.Core.Path.{_≡_, refl, sym, _∙_, ap, ap₂, subst}
-use mathlib.Core.Bool.{Bool, true, false, cond, _&&_, _||_, not}
-use mathlib.Core.List.{List, [], _∷_, _++_, map, List·Memᴰ, List·Memᴰ·head, List·Memᴰ·tail, List·Memᴰ·cases-cons, List·Memᴰ·not-nil}
+use mathlib.Core.Path.{_≡_, refl, sym, _∙_, ap}
+use mathlib.Core.Bool.{Bool, true, false, cond, not}
+use mathlib.Core.List.{List, [], _∷_, List·Memᴰ, List·Memᴰ·head, List·Memᴰ·tail, List·Memᴰ·cases-cons, List·Memᴰ·not-nil}
 use mathlib.Core.Logic.{_⊎_, inl, inr}
-use Prim.Native.Nat.{ℕ, suc, _<_, _≤_, _+_}
-use native.Mathlib.Omega.{arith}
-use Rattle.std.proofs.shelf.Tests.{both-ways, cond-both, not-from-false, not-true}
+use Prim.Native.Nat.{ℕ}
+use Rattle.std.proofs.shelf.Tests.{not-from-false, not-true}
 use Rattle.meaning.specs.Lists.{Name, keep, find, less, same}
 use Rattle.meaning.specs.Rooms.{Version, Object, Rule, Room}
 use Rattle.meaning.specs.Does.{isObject, versionsOf, setObject, aged, ruleFor, kept, agedObjects}
 use Rattle.meaning.proofs.Good.{Pairs, Before}
-use Rattle.meaning.proofs.Names.{less-trans, less-total, less-unlike, same-eq, same-from, same-refl, same-unlike}
-use Rattle.meaning.proofs.Finds.{Found, kept-was, keep-pairs, find-kept, find-nothing}
+use Rattle.meaning.proofs.Names.{less-trans, less-total, less-unlike, same-eq, same-refl, same-unlike}
+use Rattle.meaning.proofs.Finds.{kept-was, keep-pairs, find-kept, find-nothing}
 
 abbrev pub under : Name → List Version → Object
 under k vs = record { key = k; versions = vs }

@@ -1,23 +1,23 @@
 -- What is put stays, and what is held stays.
 -- Assumes nothing.
-use mathlib.Core.Path.{_≡_, refl, sym, _∙_, ap, subst}
-use mathlib.Core.Bool.{Bool, true, false, cond, _&&_, _||_, not}
+use mathlib.Core.Path.{_≡_, refl, _∙_}
+use mathlib.Core.Bool.{Bool, true, false, cond, _&&_, not}
 use mathlib.Core.List.{List, [], _∷_, List·Memᴰ, List·Memᴰ·head, List·Memᴰ·tail, List·Memᴰ·cases-cons, List·Memᴰ·not-nil}
 use mathlib.Core.Logic.{_⊎_, inl, inr}
-use Prim.Native.Nat.{ℕ, suc, _<_, _≤_, _+_}
+use Prim.Native.Nat.{ℕ, _≤_}
 use native.Mathlib.Omega.{arith}
 use lib.Dec.{T, T-not}
-use Rattle.std.proofs.shelf.Tests.{cond-both, both-ways, and-parts, not-true, not-from-false, ltb-true, lt-ltb, eqb-true, true≢false, false≢true}
-use Rattle.meaning.specs.Lists.{Name, some, keep, find, change, begins}
+use Rattle.std.proofs.shelf.Tests.{both-ways, and-parts, not-true, not-from-false, ltb-true, lt-ltb, eqb-true}
+use Rattle.meaning.specs.Lists.{Name, keep, find, change, begins}
 use Rattle.meaning.specs.Rooms.{Body, Bytes, Removed, Version, Upload, Rule, Room, State, blank, Call, Remove, Hold, Tick, Reply, Out}
 use Rattle.meaning.specs.Does.{does, isRoom, isNum, isHeld, isRemoved, isUpload, at', onTop, due, ruleFor, oldKept, tidy, covered, aged, later}
-use Rattle.meaning.specs.Laws.{Run, still, onward, fell, VersionFits, versionsIn, uploadsIn, keepsOf, StillIn, OnTopOf, here, below, DueBy, as-latest, as-older, MayGo, by-number, by-rule, by-newer, by-removing, by-upload, Stays, HeldStays}
+use Rattle.meaning.specs.Laws.{Run, still, onward, fell, VersionFits, versionsIn, StillIn, OnTopOf, here, below, DueBy, as-latest, as-older, MayGo, by-number, by-rule, by-newer, by-removing, by-upload, Stays, HeldStays}
 use Rattle.meaning.proofs.Good.{Over, Good}
 use Rattle.meaning.proofs.Names.{so, is-so}
 use Rattle.meaning.proofs.Finds.{Found, found, found-or-none, kept-is, changed-is, pairs-of, not-some}
 use Rattle.meaning.proofs.Steps.{fresh, holdTo, Writes, by-put, by-remove, by-complete, Sets, new, gone, fewer, longer, Step, stands, made, dropped, told, within, steps}
 use Rattle.meaning.proofs.Heaps.{Heap, mark, higher-left}
-use Rattle.meaning.proofs.Moves.{Moves, stay, set, ages, Spot, moves, versions-found}
+use Rattle.meaning.proofs.Moves.{Moves, stay, set, ages, moves, versions-found}
 use Rattle.meaning.proofs.Bounds.{heap-in, good, good-run, later-now}
 
 still-itself : (v : Version) (vs : List Version) → List·Memᴰ v vs → StillIn v vs

@@ -1,19 +1,19 @@
 -- What a call may come to: each way in which `does` answers, with what was tested on the way.
 -- Assumes nothing.
-use mathlib.Core.Path.{_≡_, refl, sym, _∙_, ap, subst}
+use mathlib.Core.Path.{_≡_, refl}
 use mathlib.Core.Bool.{Bool, true, false, cond, _&&_, _||_, not}
-use mathlib.Core.List.{List, [], _∷_, _++_, map}
-use mathlib.Core.Logic.{_⊎_, inl, inr}
-use Prim.Native.Nat.{ℕ, suc, _<_, _≤_, _+_}
+use mathlib.Core.List.{List, [], _∷_, _++_}
+use mathlib.Core.Logic.{inl, inr}
+use Prim.Native.Nat.{ℕ, _<_, _≤_, _+_}
 use native.Mathlib.Omega.{arith}
 use lib.Dec.{T, eqb, ltb, leb}
 use lib.ListN.{length}
-use Rattle.std.proofs.shelf.Tests.{cond-both, or-parts, and-parts, and-cases, both-ways, not-true, not-false, ltb-true, ltb-false, leb-false, eqb-true, eqb-false, true≢false, false≢true}
-use Rattle.meaning.specs.Lists.{Name, some, every, keep, find, change, none, less, begins, firstOf}
-use Rattle.meaning.specs.Rooms.{Body, Bytes, Removed, Version, Object, Part, Upload, Rule, Room, State, Expect, Any, Absent, Is, Call, MakeRoom, DropRoom, Put, Get, Remove, Look, Versions, Begin, PutPart, Complete, Abort, Hold, SetRules, Tick, Shown, Reply, No, Yes, Num, Got, List', Full, Out}
-use Rattle.meaning.specs.Does.{no, isRoom, withRooms, withObjects, withUploads, at', setObject, isRemoved, current, isHeld, onTop, bytes, nameOk, inRoomOr, puts, isNum, chosen, gets, removesOne, removesLatest, shownOf, allShown, isUpload, setPart, gapless, joined, partsPut, completes, unless-no, aborts, higher, holds, later, ticked, small, ruleOk, acts, isTick, does, meets}
-use Rattle.meaning.proofs.Names.{so, same-eq, same-refl}
-use Rattle.meaning.proofs.Finds.{Found, found, at-find, change-as, change-again}
+use Rattle.std.proofs.shelf.Tests.{cond-both, or-parts, and-parts, and-cases, both-ways, not-true, not-false, ltb-true, ltb-false, leb-false, eqb-true, eqb-false, false≢true}
+use Rattle.meaning.specs.Lists.{Name, some, every, keep, find, change, none}
+use Rattle.meaning.specs.Rooms.{Body, Bytes, Removed, Version, Upload, Rule, Room, State, Expect, Call, MakeRoom, DropRoom, Put, Get, Remove, Look, Versions, Begin, PutPart, Complete, Abort, Hold, SetRules, Tick, Shown, Reply, No, Yes, Num, Got, List', Out}
+use Rattle.meaning.specs.Does.{no, isRoom, withRooms, withObjects, withUploads, at', setObject, isRemoved, current, isHeld, onTop, bytes, nameOk, inRoomOr, puts, isNum, chosen, gets, removesOne, removesLatest, isUpload, setPart, gapless, joined, partsPut, completes, unless-no, aborts, higher, holds, later, ticked, small, ruleOk, acts, isTick, does, meets}
+use Rattle.meaning.proofs.Names.{so}
+use Rattle.meaning.proofs.Finds.{found, at-find, change-as, change-again}
 
 abbrev pub Silent : Reply → Type 0
 Silent r = (k : ℕ) → r ≡ Num k → ⊥
@@ -54,6 +54,14 @@ pub data Within (s : State) (n : Name) (r : Room) : Call → Reply → ℕ → R
   parted : (u p : ℕ) (bs : List ℕ) → 1 ≤ p → p ≤ 10000 → length bs ≤ 5242880 → T (bytes bs) → Within s n r (PutPart n u p bs) Yes (s .next) (withUploads (change (isUpload u) (withPart p bs) (r .uploads)) r)
   aborted : (u : ℕ) → Within s n r (Abort n u) Yes (s .next) (withUploads (others u (r .uploads)) r)
   ruled : (rs : List Rule) → length rs ≤ 64 → T (every ruleOk rs) → Within s n r (SetRules n rs) Yes (s .next) (withRules rs r)
+
+-- the room keeps its name
+pub within-named : (s : State) (n : Name) (r : Room) {c : Call} {reply : Reply} {next : ℕ} {q : Room} → Within s n r c reply next q → q .name ≡ r .name
+within-named s n r (sets k h) = refl
+within-named s n r (begun k name few) = refl
+within-named s n r (parted u p bs a b l ok) = refl
+within-named s n r (aborted u) = refl
+within-named s n r (ruled rs few fit) = refl
 
 abbrev pub emptyRoom : Name → Bool → Room
 emptyRoom n k = record { name = n; keeps = k; rules = []; objects = []; uploads = [] }

@@ -1,19 +1,18 @@
 -- Numbers rise, and a number tells one content for good.
 -- Assumes nothing.
-use mathlib.Core.Path.{_≡_, refl, sym, _∙_, ap, subst}
-use mathlib.Core.Bool.{Bool}
+use mathlib.Core.Path.{_≡_, refl, sym, _∙_}
 use mathlib.Core.List.{List, [], _∷_, List·Memᴰ, List·Memᴰ·not-nil}
 use mathlib.Core.Logic.{_⊎_, inl, inr}
-use Prim.Native.Nat.{ℕ, suc, _<_, _≤_, _+_}
+use Prim.Native.Nat.{ℕ, _<_, _≤_, _+_}
 use native.Mathlib.Omega.{arith}
 use Rattle.meaning.specs.Lists.{Name, find}
-use Rattle.meaning.specs.Rooms.{Version, Upload, Room, State, blank, Call, Reply, Yes, Num, Out}
+use Rattle.meaning.specs.Rooms.{Version, Upload, Room, State, Call, Reply, Yes, Num, Out}
 use Rattle.meaning.specs.Does.{does, isRoom}
-use Rattle.meaning.specs.Laws.{Run, still, onward, fell, versionsIn, uploadsIn, keepsOf, Same, NumbersTell, Rises, NumbersRise}
+use Rattle.meaning.specs.Laws.{Run, still, onward, fell, versionsIn, uploadsIn, keepsOf, Same, NumbersTell, NumbersRise}
 use Rattle.meaning.proofs.Good.{Over, Good}
 use Rattle.meaning.proofs.Finds.{found, found-or-none, pairs-of}
 use Rattle.meaning.proofs.Steps.{Silent, Sets, new, gone, fewer, longer, Within, sets, begun, parted, aborted, ruled, Step, stands, made, dropped, told, within, steps}
-use Rattle.meaning.proofs.Moves.{Like, Spot, Origin, was, came, marks, origin, moves}
+use Rattle.meaning.proofs.Moves.{Spot, Origin, was, came, marks, origin, moves}
 use Rattle.meaning.proofs.Bounds.{house, heap-in, good, good-run}
 
 -- a reply that is a number is the next one, and counts it; no other counts

@@ -1,16 +1,16 @@
 -- The uploads of a room and their parts: what is so of them stays so when one begins, a part comes, and one goes.
 -- Assumes nothing.
-use mathlib.Core.Path.{_≡_, refl, sym, _∙_, ap, subst}
-use mathlib.Core.Bool.{Bool, true, false, cond, _&&_, _||_, not}
+use mathlib.Core.Path.{_≡_, refl}
+use mathlib.Core.Bool.{Bool, true, false, cond, _&&_, not}
 use mathlib.Core.List.{List, [], _∷_, _++_, List·Memᴰ, List·Memᴰ·head, List·Memᴰ·tail, List·Memᴰ·cases-cons, List·Memᴰ·not-nil, List·Memᴰ·append-cases, List·Memᴰ·eq-of-singleton}
 use mathlib.Core.Logic.{_⊎_, inl, inr}
-use Prim.Native.Nat.{ℕ, suc, _<_, _≤_, _+_, _*_}
+use Prim.Native.Nat.{ℕ, _<_, _≤_, _+_, _*_}
 use native.Mathlib.Omega.{arith}
 use lib.Dec.{T, ltb, eqb}
 use lib.ListN.{length, length-append}
-use Rattle.std.proofs.shelf.Tests.{cond-both, ltb-true, ltb-false, eqb-true, eqb-false}
-use Rattle.meaning.specs.Lists.{Name, every, keep, find, change}
-use Rattle.meaning.specs.Rooms.{Part, Upload, Room}
+use Rattle.std.proofs.shelf.Tests.{ltb-true, ltb-false, eqb-true, eqb-false}
+use Rattle.meaning.specs.Lists.{Name, every, change}
+use Rattle.meaning.specs.Rooms.{Part, Upload}
 use Rattle.meaning.specs.Does.{bytes, nameOk, isUpload, setPart, joined}
 use Rattle.meaning.specs.Laws.{PartFits, UploadFits}
 use Rattle.meaning.proofs.Good.{Pairs, Earlier, Begun}
