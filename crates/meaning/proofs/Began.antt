@@ -26,7 +26,7 @@ pub record UploadSpot (s t : State) : Type 0 where
 writes-uploads : (n : Name) (r : Room) (k : Name) {c : Call} {us : List Upload} {b : Body} → Writes n r k c us b → (u : Upload) → List·Memᴰ u us → List·Memᴰ u (r .uploads)
 writes-uploads n r k (by-put bs x name l ok) u m = m
 writes-uploads n r k (by-remove e) u m = m
-writes-uploads n r k (by-complete num x y e d) u m = kept-was (λ (y : Upload). not (isUpload num y)) (r .uploads) u m .there
+writes-uploads n r k (by-complete num x y e some d) u m = kept-was (λ (y : Upload). not (isUpload num y)) (r .uploads) u m .there
 
 sets-uploads : (s : State) (n : Name) (r : Room) (k : Name) {c : Call} {reply : Reply} {next : ℕ} {us : List Upload} {vs : List Version} → Sets s n r k c reply next us vs → (u : Upload) → List·Memᴰ u us → List·Memᴰ u (r .uploads)
 sets-uploads s n r k (new b w l) u m = writes-uploads n r k w u m
