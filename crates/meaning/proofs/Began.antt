@@ -1,17 +1,17 @@
 -- Where an upload comes from: by its number, one that was in the room before a call, or one that the call began.
 -- Assumes nothing.
-use mathlib.Core.Path.{_≡_, refl, sym, _∙_, subst}
-use mathlib.Core.Bool.{Bool, not}
+use mathlib.Core.Path.{_≡_, refl, sym, _∙_}
+use mathlib.Core.Bool.{not}
 use mathlib.Core.List.{List, [], _∷_, List·Memᴰ, List·Memᴰ·not-nil, List·Memᴰ·append-cases, List·Memᴰ·eq-of-singleton, Memᴰ·of-map}
 use mathlib.Core.Logic.{_⊎_, inl, inr}
-use Prim.Native.Nat.{ℕ, _+_}
+use Prim.Native.Nat.{ℕ}
 use Rattle.meaning.specs.Lists.{Name, find}
 use Rattle.meaning.specs.Rooms.{Body, Version, Upload, Room, State, Call, Reply, Out}
 use Rattle.meaning.specs.Does.{isRoom, isUpload, agedRoom, later}
 use Rattle.meaning.specs.Laws.{versionsIn}
 use Rattle.meaning.proofs.Names.{same-eq}
-use Rattle.meaning.proofs.Finds.{Found, found, kept-was, changed-was}
-use Rattle.meaning.proofs.Steps.{withPart, Writes, by-put, by-remove, by-complete, Sets, new, gone, fewer, longer, Within, sets, begun, parted, aborted, ruled, within-named, emptyRoom, Step, stands, made, dropped, told, within}
+use Rattle.meaning.proofs.Finds.{Changed, Found, found, kept-was, changed-was}
+use Rattle.meaning.proofs.Steps.{withPart, Writes, by-put, by-remove, by-complete, Sets, new, gone, fewer, longer, Within, sets, begun, parted, aborted, ruled, within-named, Step, stands, made, dropped, told, within}
 use Rattle.meaning.proofs.Moves.{replaced, replaced-same}
 
 -- room: the one room in which an upload may begin; where one does, no version moves
@@ -47,7 +47,7 @@ within-uploads s n r (begun k name few) u m = go (List·Memᴰ·append-cases (r 
     go (inr m) = inr (rw (List·Memᴰ·eq-of-singleton m) refl, refl)
 within-uploads s n r (parted num p bs a b l ok) u m = go (changed-was (isUpload num) (withPart p bs) (r .uploads) u m)
   where
-    go : ((w : Upload) × (u ≡ withPart p bs w) × Found (isUpload num) (r .uploads) w) ⊎ List·Memᴰ u (r .uploads) → From s r r u
+    go : Changed (isUpload num) (withPart p bs) (r .uploads) u → From s r r u
     go (inl t) = inl (t .0, t .2 .there, rw (t .1) refl)
     go (inr m) = inl (u, m, refl)
 within-uploads s n r (aborted num) u m = inl (u, kept-was (λ (y : Upload). not (isUpload num y)) (r .uploads) u m .there, refl)
@@ -73,7 +73,7 @@ within-from s n r q next e w = record { room = n; from = λ x u m i. each x u i 
     changed u (inl x) = was-there r (x .0) (there .there) (x .1) (sym named) (x .2)
     changed u (inr x) = began (named ∙ sym (same-eq n (r .name) (there .passes))) (x .0) (replaced-same s n r q e named next (x .1))
 
-    each : (x : Room) (u : Upload) → List·Memᴰ u (x .uploads) → ((y : Room) × (x ≡ q) × Found (isRoom n) (s .rooms) y) ⊎ List·Memᴰ x (s .rooms) → UploadOrigin s t n x u
+    each : (x : Room) (u : Upload) → List·Memᴰ u (x .uploads) → Changed (isRoom n) (λ _. q) (s .rooms) x → UploadOrigin s t n x u
     each x u i (inl y) = rw (y .1) (changed u (within-uploads s n r w u (rw (y .1) at i)))
     each x u i (inr m) = kept-upload x u m i
 

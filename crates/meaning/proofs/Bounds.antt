@@ -3,7 +3,7 @@
 use mathlib.Core.Path.{_≡_, refl, sym, _∙_, subst}
 use mathlib.Core.Bool.{Bool, false, not}
 use mathlib.Core.List.{List, [], _∷_, _++_, List·Memᴰ, List·Memᴰ·head, List·Memᴰ·not-nil, List·Memᴰ·append-cases, List·Memᴰ·eq-of-singleton, Memᴰ·of-map}
-use mathlib.Core.Logic.{_⊎_, inl, inr}
+use mathlib.Core.Logic.{inl, inr}
 use Prim.Native.Nat.{ℕ, _<_, _≤_, _+_}
 use native.Mathlib.Omega.{arith}
 use lib.Dec.{T, ltb}
@@ -15,8 +15,8 @@ use Rattle.meaning.specs.Does.{does, isRoom, isObject, isNum, versionsOf, at',
 use Rattle.meaning.specs.Laws.{Run, still, onward, fell, versionsIn, keepsOf, VersionFits, UploadFits, RoomFits, StaysInBounds}
 use Rattle.meaning.proofs.Good.{Pairs, Apart, Before, RoomGood, Once, UploadsOnce, Good}
 use Rattle.meaning.proofs.Names.{same-eq, same-from}
-use Rattle.meaning.proofs.Finds.{Found, found, found-or-none, kept-was, keep-pairs, keep-length, changed-was, change-pairs, change-length, pairs-pushed, mapped-pairs, not-some}
-use Rattle.meaning.proofs.Objects.{under, set-was, set-pairs, aged-was, aged-pairs}
+use Rattle.meaning.proofs.Finds.{Changed, FoundOrNone, found, found-or-none, kept-was, keep-pairs, keep-length, changed-was, change-pairs, change-length, pairs-pushed, mapped-pairs, not-some}
+use Rattle.meaning.proofs.Objects.{SetOrWas, set-was, set-pairs, aged-was, aged-pairs}
 use Rattle.meaning.proofs.Steps.{fresh, Writes, by-put, by-remove, by-complete, Sets, new, gone, fewer, longer, Within, sets, begun, parted, aborted, ruled, Step, stands, made, dropped, told, within, within-named, emptyRoom, without, steps}
 use Rattle.meaning.proofs.Heaps.{Heap, heap-none, heap-later, heap-keep, heap-longer, heap-on-top, heap-aged}
 use Rattle.meaning.proofs.Uploads.{Ups, ups-later, ups-others, ups-begun, ups-parted, joined-bytes, joined-length}
@@ -76,7 +76,7 @@ module _ {now next : ℕ} (r : Room) (ok : RoomOk now next r) (k : Name) where
   unfolding versionsOf
   heap-at = go (found-or-none (isObject k) (r .objects))
     where
-      go : (find (isObject k) (r .objects) ≡ []) ⊎ ((o : Object) × (find (isObject k) (r .objects) ≡ o ∷ [])) → Heap now next (r .keeps) (at' k r)
+      go : FoundOrNone (isObject k) (r .objects) → Heap now next (r .keeps) (at' k r)
       go (inl e) = rw e (heap-none now next (r .keeps))
       go (inr h) = rw (h .1) (ok .objects-ok (h .0) (found (isObject k) (r .objects) (h .0) [] (h .1) .there) .heap)
 
@@ -84,7 +84,7 @@ module _ {now next : ℕ} (r : Room) (ok : RoomOk now next r) (k : Name) where
   unfolding versionsOf
   key-at v m = go (found-or-none (isObject k) (r .objects))
     where
-      go : (find (isObject k) (r .objects) ≡ []) ⊎ ((o : Object) × (find (isObject k) (r .objects) ≡ o ∷ [])) → T (nameOk k)
+      go : FoundOrNone (isObject k) (r .objects) → T (nameOk k)
       go (inl e) = absurd (List·Memᴰ·not-nil (rw e at m))
       go (inr h) = let f = found (isObject k) (r .objects) (h .0) [] (h .1) in rw (same-eq k (h .0 .key) (f .passes)) (ok .objects-ok (h .0) (f .there) .key-fits)
 
@@ -104,7 +104,7 @@ set-ok {now} {next} {next′} r k vs us p ok h name ups =
       objects-ok = λ o m. each o (set-was k vs (r .objects) o m);
     }
   where
-    each : (o : Object) → ((o ≡ under k vs) × ((v : Version) × (ws : List Version) × (vs ≡ v ∷ ws))) ⊎ List·Memᴰ o (r .objects) → ObjectOk now next′ (r .keeps) o
+    each : (o : Object) → SetOrWas k vs (r .objects) o → ObjectOk now next′ (r .keeps) o
     each o (inl t) = rw (t .0) (record { key-fits = name (t .1 .0) (t .1 .1) (t .1 .2); some-version = longer-than-none vs (t .1 .0) (t .1 .1) (t .1 .2); heap = h })
     each o (inr m) = object-later (omega arith) p (ok .objects-ok o m)
 
@@ -284,7 +284,7 @@ within-house s n r q next e left h named w =
     same-q : n ≡ q .name
     same-q = same-eq n (r .name) (found (isRoom n) (s .rooms) r [] e .passes) ∙ sym named
 
-    each : (x : Room) → ((y : Room) × (x ≡ q) × Found (isRoom n) (s .rooms) y) ⊎ List·Memᴰ x (s .rooms) → RoomOk (s .now) next x
+    each : (x : Room) → Changed (isRoom n) (λ _. q) (s .rooms) x → RoomOk (s .now) next x
     each x (inl t) = rw (t .1) (w .ok)
     each x (inr m) = room-later (omega arith) (w .no-less) (h .rooms-ok x m)
 
@@ -301,7 +301,7 @@ house-step s h (within n r q e left w) = within-house s n r q _ e left h (within
 pub heap-in : (s : State) → Good s → (n k : Name) → Heap (s .now) (s .next) (keepsOf n s) (versionsIn n k s)
 heap-in s g n k = go (found-or-none (isRoom n) (s .rooms))
   where
-    go : (find (isRoom n) (s .rooms) ≡ []) ⊎ ((r : Room) × (find (isRoom n) (s .rooms) ≡ r ∷ [])) → Heap (s .now) (s .next) (keepsOf n s) (versionsIn n k s)
+    go : FoundOrNone (isRoom n) (s .rooms) → Heap (s .now) (s .next) (keepsOf n s) (versionsIn n k s)
     go (inl e) = rw e (heap-none (s .now) (s .next) false)
     go (inr h) = rw (h .1) (heap-at (h .0) (house g .rooms-ok (h .0) (found (isRoom n) (s .rooms) (h .0) [] (h .1) .there)) k)
 

@@ -16,6 +16,18 @@ pub record Found {A : Type 0} (f : A → Bool) (xs : List A) (x : A) : Type 0 wh
   pub there : List·Memᴰ x xs
   pub passes : f x ≡ true
 
+-- at most one is found
+abbrev pub FoundOrNone : {A : Type 0} → (A → Bool) → List A → Type 0
+FoundOrNone {A} f xs = (find f xs ≡ []) ⊎ ((x : A) × (find f xs ≡ x ∷ []))
+
+-- one of a changed list is what the change made of one that passes, or was there
+abbrev pub Changed : {A : Type 0} → (A → Bool) → (A → A) → List A → A → Type 0
+Changed {A} f g xs z = ((w : A) × (z ≡ g w) × Found f xs w) ⊎ List·Memᴰ z xs
+
+-- one more at the end: what was found is found, or it is the one
+abbrev pub Pushed : {A : Type 0} → (A → Bool) → A → List A → Type 0
+Pushed f y xs = (find f (xs ++ (y ∷ [])) ≡ find f xs) ⊎ ((find f xs ≡ []) × (f y ≡ true) × (find f (xs ++ (y ∷ [])) ≡ y ∷ []))
+
 module _ {A : Type 0} (f : A → Bool) where
   pub found : (xs : List A) (x : A) (ys : List A) → find f xs ≡ x ∷ ys → Found f xs x
   unfolding find
@@ -26,7 +38,6 @@ module _ {A : Type 0} (f : A → Bool) where
       go true p below = let q : y ≡ x = cc in record { there = List·Memᴰ·head (sym q); passes = rw (← q) p }
       go false p below = let h = below (rw p at e) in record { there = List·Memᴰ·tail (h .there); passes = h .passes }
 
-  -- at most one is found
   pub at-find : (P : List A → Type 0) (xs : List A) → (find f xs ≡ [] → P []) → ((x : A) → find f xs ≡ x ∷ [] → P (x ∷ [])) → P (find f xs)
   unfolding find
   at-find P [] none one = none refl
@@ -36,7 +47,7 @@ module _ {A : Type 0} (f : A → Bool) where
       go true p below = rw p (one x (rw p refl))
       go false p below = rw p (below (λ e. none (rw p e)) (λ y e. one y (rw p e)))
 
-  pub found-or-none : (xs : List A) → (find f xs ≡ []) ⊎ ((x : A) × (find f xs ≡ x ∷ []))
+  pub found-or-none : (xs : List A) → FoundOrNone f xs
   found-or-none xs = at-find (λ ys. (ys ≡ []) ⊎ ((x : A) × (ys ≡ x ∷ []))) xs (λ _. inl refl) (λ x _. inr (x, refl))
 
   pub find-none : (xs : List A) → find f xs ≡ [] → (x : A) → List·Memᴰ x xs → f x ≡ false
@@ -114,14 +125,13 @@ module _ {A : Type 0} (f : A → Bool) where
       go true p below = rw (p, h) refl
       go false p below = rw p (rw p (ap (λ zs. x ∷ zs) below))
 
-  -- each of the changed list was there, or is the one that was changed
-  pub changed-was : (g : A → A) (xs : List A) (z : A) → List·Memᴰ z (change f g xs) → ((w : A) × (z ≡ g w) × Found f xs w) ⊎ List·Memᴰ z xs
+  pub changed-was : (g : A → A) (xs : List A) (z : A) → List·Memᴰ z (change f g xs) → Changed f g xs z
   unfolding change
   changed-was g [] z m = inr m
   changed-was g (x ∷ xs) z m = go (f x) refl (changed-was g xs z)
     where
       Was : List A → Type 0
-      Was ys = ((w : A) × (z ≡ g w) × Found f ys w) ⊎ List·Memᴰ z ys
+      Was ys = Changed f g ys z
 
       first : f x ≡ true → (z ≡ g x) ⊎ List·Memᴰ z xs → Was (x ∷ xs)
       first p (inl e) = inl (x, e, record { there = List·Memᴰ·head refl; passes = p })
@@ -164,7 +174,7 @@ module _ {A : Type 0} (f : A → Bool) where
   change-pairs g R upper lower (x ∷ xs) p =
       cond-both (f x) (g x ∷ xs) (x ∷ change f g xs) (Pairs R) (λ e. (λ y m. upper x y e (p .0 y m), p .1)) (λ _. (λ y m. below y (changed-was g xs y m), change-pairs g R upper lower xs (p .1)))
     where
-      below : (y : A) → ((w : A) × (y ≡ g w) × Found f xs w) ⊎ List·Memᴰ y xs → R x y
+      below : (y : A) → Changed f g xs y → R x y
       below y (inl t) = subst (R x) (sym (t .1)) (lower x (t .0) (t .2 .passes) (p .0 (t .0) (t .2 .there)))
       below y (inr m) = p .0 y m
 
@@ -207,17 +217,16 @@ module _ {A : Type 0} (f : A → Bool) where
   find-nothing [] h = refl
   find-nothing (x ∷ xs) h = rw (h x (List·Memᴰ·head refl), find-nothing xs (λ y m. h y (List·Memᴰ·tail m))) refl
 
-  -- one more at the end is found where none was before
-  pub find-pushed : (y : A) (xs : List A) → (find f (xs ++ (y ∷ [])) ≡ find f xs) ⊎ ((find f xs ≡ []) × (f y ≡ true) × (find f (xs ++ (y ∷ [])) ≡ y ∷ []))
+  pub find-pushed : (y : A) (xs : List A) → Pushed f y xs
   unfolding find
   find-pushed y [] = go (f y) refl
     where
-      go : (b : Bool) → f y ≡ b → (cond (f y) (y ∷ []) [] ≡ []) ⊎ ((find f [] ≡ []) × (f y ≡ true) × (cond (f y) (y ∷ []) [] ≡ y ∷ []))
+      go : (b : Bool) → f y ≡ b → Pushed f y []
       go true p = inr (refl, p, rw p refl)
       go false p = inl (rw p refl)
   find-pushed y (x ∷ xs) = go (f x) refl (find-pushed y xs)
     where
-      go : (b : Bool) → f x ≡ b → (find f (xs ++ (y ∷ [])) ≡ find f xs) ⊎ ((find f xs ≡ []) × (f y ≡ true) × (find f (xs ++ (y ∷ [])) ≡ y ∷ [])) → (find f ((x ∷ xs) ++ (y ∷ [])) ≡ find f (x ∷ xs)) ⊎ ((find f (x ∷ xs) ≡ []) × (f y ≡ true) × (find f ((x ∷ xs) ++ (y ∷ [])) ≡ y ∷ []))
+      go : (b : Bool) → f x ≡ b → Pushed f y xs → Pushed f y (x ∷ xs)
       go true p below = inl (rw p refl)
       go false p (inl e) = inl (rw (p, e) refl)
       go false p (inr t) = inr (rw p (t .0), t .1, rw p (t .2))

@@ -14,7 +14,7 @@ use Rattle.meaning.specs.Rooms.{Body, Bytes, Removed, Version, Rule}
 use Rattle.meaning.specs.Does.{isHeld, isRemoved, onTop, isNum, higher, due, oldKept, tidy, covered, aged, small}
 use Rattle.meaning.specs.Laws.{VersionFits}
 use Rattle.meaning.proofs.Good.{Pairs, Over}
-use Rattle.meaning.proofs.Finds.{Found, found, kept-was, keep-pairs, keep-length, change-as, changed-was, change-pairs, change-length}
+use Rattle.meaning.proofs.Finds.{Changed, Found, found, kept-was, keep-pairs, keep-length, change-as, changed-was, change-pairs, change-length}
 use Rattle.meaning.proofs.Steps.{holdTo}
 
 pub record Heap (now next : ℕ) (keeps : Bool) (vs : List Version) : Type 0 where
@@ -93,7 +93,7 @@ heap-longer {now} {next} {keeps} num until v vs t e d h =
       stacked = change-pairs (isNum num) (holdTo until) (Over keeps) (λ x y _ o. record { later = o .later; higher = o .higher; was-held = o .was-held }) (λ x y _ o. record { later = o .later; higher = o .higher; was-held = λ k. omega (arith, o .was-held k, higher-left (y .held) until) }) vs (h .stacked);
     }
   where
-    one : (w : Version) → ((u : Version) × (w ≡ holdTo until v) × Found (isNum num) vs u) ⊎ List·Memᴰ w vs → VersionFits now next w
+    one : (w : Version) → Changed (isNum num) (λ _. holdTo until v) vs w → VersionFits now next w
     one w (inl x) = rw (x .1) (hold-fits until v t d (h .each-fits v (found (isNum num) vs v [] e .there)))
     one w (inr m) = h .each-fits w m
 

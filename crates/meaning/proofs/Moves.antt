@@ -13,7 +13,7 @@ use Rattle.meaning.specs.Does.{isRoom, isObject, isNum, isHeld, versionsOf, at
 use Rattle.meaning.specs.Laws.{versionsIn}
 use Rattle.meaning.proofs.Good.{Pairs, Before, Good}
 use Rattle.meaning.proofs.Names.{same-eq, same-unlike, same-not}
-use Rattle.meaning.proofs.Finds.{Found, found, found-or-none, kept-was, changed-was, find-changed, find-unchanged, find-kept, find-nothing, find-pushed, find-mapped}
+use Rattle.meaning.proofs.Finds.{Pushed, Changed, FoundOrNone, found, found-or-none, kept-was, changed-was, find-changed, find-unchanged, find-kept, find-nothing, find-pushed, find-mapped}
 use Rattle.meaning.proofs.Objects.{found-set, found-elsewhere, found-aged}
 use Rattle.meaning.proofs.Steps.{fresh, holdTo, Sets, new, gone, fewer, longer, Within, Step, stands, made, dropped, told, within, sets, begun, parted, aborted, ruled, emptyRoom, without}
 use Rattle.meaning.proofs.Heaps.{aged-was-or-mark, higher-left}
@@ -51,7 +51,7 @@ made-moves s n keeps m l = go (find-pushed (isRoom m) (emptyRoom n keeps) (s .ro
     t : State
     t = record { now = s .now; next = s .next; rooms = s .rooms ++ (emptyRoom n keeps ∷ []) }
 
-    go : (find (isRoom m) (t .rooms) ≡ find (isRoom m) (s .rooms)) ⊎ ((find (isRoom m) (s .rooms) ≡ []) × (isRoom m (emptyRoom n keeps) ≡ true) × (find (isRoom m) (t .rooms) ≡ emptyRoom n keeps ∷ [])) → versionsIn m l t ≡ versionsIn m l s
+    go : Pushed (isRoom m) (emptyRoom n keeps) (s .rooms) → versionsIn m l t ≡ versionsIn m l s
     go (inl e) = versions-same m l s t e
     go (inr h) = versions-found m l t (emptyRoom n keeps) (h .2) ∙ sym (versions-none m l s (h .0))
 
@@ -87,7 +87,7 @@ told-moves s t g n k = go (found-or-none (isRoom n) (s .rooms))
     left : (r : Room) → find (isRoom n) (s .rooms) ≡ r ∷ [] → versionsIn n k (ticked now s) ≡ aged now (r .keeps) (ruleFor k (r .rules)) (at' k r)
     left r e = versions-found n k (ticked now s) (agedRoom now r) (mapped ∙ ap (map (agedRoom now)) e) ∙ found-aged now r k (r .objects) (g .rooms-good r (found (isRoom n) (s .rooms) r [] e .there) .keys-rise)
 
-    go : (find (isRoom n) (s .rooms) ≡ []) ⊎ ((r : Room) × (find (isRoom n) (s .rooms) ≡ r ∷ [])) → Moves s now [] [] n k (Tick t) (versionsIn n k (ticked now s))
+    go : FoundOrNone (isRoom n) (s .rooms) → Moves s now [] [] n k (Tick t) (versionsIn n k (ticked now s))
     go (inl e) = unmoved (versions-none n k (ticked now s) (mapped ∙ ap (map (agedRoom now)) e) ∙ sym (versions-none n k s e))
     go (inr h) = rw (left (h .0) (h .1)) (ages t (h .0) refl (h .1))
 
@@ -172,7 +172,7 @@ origin s room key n k (set r _ i j e h) w m = go h m
     top b (inl d) = came i j (rw d refl)
     top b (inr m) = there w (below-was (s .now) (r .keeps) (at' k r) w m) (like-itself w)
 
-    held : (num until : ℕ) → ((u : Version) × (w ≡ holdTo until u) × Found (isNum num) (at' k r) u) ⊎ List·Memᴰ w (at' k r) → Origin s room key n k w
+    held : (num until : ℕ) → Changed (isNum num) (holdTo until) (at' k r) w → Origin s room key n k w
     held num until (inl t) = there (t .0) (t .2 .there) (rw (t .1) (record { num = refl; body = refl; at = refl; held = higher-left (t .0 .held) until }))
     held num until (inr m) = there w m (like-itself w)
 

@@ -16,19 +16,22 @@ use Rattle.meaning.proofs.Finds.{kept-was, keep-pairs, find-kept, find-nothing
 abbrev pub under : Name → List Version → Object
 under k vs = record { key = k; versions = vs }
 
--- each object afterwards is the one that was set, or was there under another key
-pub set-was : (k : Name) (vs : List Version) (os : List Object) (o : Object) → List·Memᴰ o (setObject k vs os) → ((o ≡ under k vs) × ((v : Version) × (ws : List Version) × (vs ≡ v ∷ ws))) ⊎ List·Memᴰ o os
+-- each object afterwards is the one that was set, of some versions, or was there
+abbrev pub SetOrWas : Name → List Version → List Object → Object → Type 0
+SetOrWas k vs os o = ((o ≡ under k vs) × ((v : Version) × (ws : List Version) × (vs ≡ v ∷ ws))) ⊎ List·Memᴰ o os
+
+pub set-was : (k : Name) (vs : List Version) (os : List Object) (o : Object) → List·Memᴰ o (setObject k vs os) → SetOrWas k vs os o
 unfolding setObject
 set-was k [] os o m = inr (kept-was (λ (p : Object). not (isObject k p)) os o m .there)
 set-was k (v ∷ vs) [] o m = first (List·Memᴰ·cases-cons m)
   where
-    first : (o ≡ under k (v ∷ vs)) ⊎ List·Memᴰ o [] → ((o ≡ under k (v ∷ vs)) × ((w : Version) × (ws : List Version) × (v ∷ vs ≡ w ∷ ws))) ⊎ List·Memᴰ o []
+    first : (o ≡ under k (v ∷ vs)) ⊎ List·Memᴰ o [] → SetOrWas k (v ∷ vs) [] o
     first (inl e) = inl (e, (v, vs, refl))
     first (inr m) = inr m
 set-was k (v ∷ vs) (p ∷ os) o m = go (less k (p .key)) (less (p .key) k) refl refl (set-was k (v ∷ vs) os o)
   where
     Was : List Object → Type 0
-    Was ps = ((o ≡ under k (v ∷ vs)) × ((w : Version) × (ws : List Version) × (v ∷ vs ≡ w ∷ ws))) ⊎ List·Memᴰ o ps
+    Was ps = SetOrWas k (v ∷ vs) ps o
 
     before : (o ≡ under k (v ∷ vs)) ⊎ List·Memᴰ o (p ∷ os) → Was (p ∷ os)
     before (inl e) = inl (e, (v, vs, refl))
@@ -64,7 +67,7 @@ set-pairs k (v ∷ vs) (o ∷ os) p = go (less k (o .key)) (less (o .key) k) ref
     front e y (inl d) = rw d e
     front e y (inr m) = less-trans k (o .key) (y .key) e (p .0 y m)
 
-    behind : less (o .key) k ≡ true → (y : Object) → ((y ≡ new) × ((w : Version) × (ws : List Version) × (v ∷ vs ≡ w ∷ ws))) ⊎ List·Memᴰ y os → Before o y
+    behind : less (o .key) k ≡ true → (y : Object) → SetOrWas k (v ∷ vs) os y → Before o y
     behind e y (inl t) = rw (t .0) e
     behind e y (inr m) = p .0 y m
 

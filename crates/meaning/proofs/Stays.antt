@@ -14,7 +14,7 @@ use Rattle.meaning.specs.Does.{does, isRoom, isNum, isHeld, isRemoved, isUploa
 use Rattle.meaning.specs.Laws.{Run, still, onward, fell, VersionFits, versionsIn, StillIn, OnTopOf, here, below, DueBy, as-latest, as-older, MayGo, by-number, by-rule, by-newer, by-removing, by-upload, Stays, HeldStays}
 use Rattle.meaning.proofs.Good.{Over, Good}
 use Rattle.meaning.proofs.Names.{so, is-so}
-use Rattle.meaning.proofs.Finds.{Found, found, found-or-none, kept-is, changed-is, pairs-of, not-some}
+use Rattle.meaning.proofs.Finds.{FoundOrNone, Found, found, found-or-none, kept-is, changed-is, pairs-of, not-some}
 use Rattle.meaning.proofs.Steps.{fresh, holdTo, Writes, by-put, by-remove, by-complete, Sets, new, gone, fewer, longer, Step, stands, made, dropped, told, within, steps}
 use Rattle.meaning.proofs.Heaps.{Heap, mark, higher-left}
 use Rattle.meaning.proofs.Moves.{Moves, stay, set, ages, moves, versions-found}
@@ -169,7 +169,7 @@ module _ (s : State) (n k : Name) (r : Room) (e : find (isRoom n) (s .rooms) ≡
       now : ℕ
       now = later t (s .now)
 
-      go : (ruleFor k (r .rules) ≡ []) ⊎ ((x : Rule) × (ruleFor k (r .rules) ≡ x ∷ [])) → Fate s n k v (Tick t) now (aged now (r .keeps) (ruleFor k (r .rules)) (at' k r))
+      go : FoundOrNone (λ (x : Rule). begins (x .prefix) k) (r .rules) → Fate s n k v (Tick t) now (aged now (r .keeps) (ruleFor k (r .rules)) (at' k r))
       go (inl d) = rw d (inl (still-itself v _ m))
       go (inr h) = rw (h .1) (elim (aged-stays now (r .keeps) (h .0) (at' k r) v bytes m) [ inl i ↦ inl (still-itself v _ i) | inr g ↦ inr (by-rule t r (h .0) e (h .1) (g .0), not-held now v (g .1)) ])
 

@@ -1,16 +1,16 @@
 -- Numbers rise, and a number tells one content for good.
 -- Assumes nothing.
 use mathlib.Core.Path.{_≡_, refl, sym, _∙_}
-use mathlib.Core.List.{List, [], _∷_, List·Memᴰ, List·Memᴰ·not-nil}
+use mathlib.Core.List.{List, [], List·Memᴰ, List·Memᴰ·not-nil}
 use mathlib.Core.Logic.{_⊎_, inl, inr}
 use Prim.Native.Nat.{ℕ, _<_, _≤_, _+_}
 use native.Mathlib.Omega.{arith}
-use Rattle.meaning.specs.Lists.{Name, find}
+use Rattle.meaning.specs.Lists.{Name}
 use Rattle.meaning.specs.Rooms.{Version, Upload, Room, State, Call, Reply, Yes, Num, Out}
 use Rattle.meaning.specs.Does.{does, isRoom}
 use Rattle.meaning.specs.Laws.{Run, still, onward, fell, versionsIn, uploadsIn, keepsOf, Same, NumbersTell, NumbersRise}
 use Rattle.meaning.proofs.Good.{Over, Good}
-use Rattle.meaning.proofs.Finds.{found, found-or-none, pairs-of}
+use Rattle.meaning.proofs.Finds.{FoundOrNone, found, found-or-none, pairs-of}
 use Rattle.meaning.proofs.Steps.{Silent, Sets, new, gone, fewer, longer, Within, sets, begun, parted, aborted, ruled, Step, stands, made, dropped, told, within, steps}
 use Rattle.meaning.proofs.Moves.{Spot, Origin, was, came, marks, origin, moves}
 use Rattle.meaning.proofs.Bounds.{house, heap-in, good, good-run}
@@ -54,7 +54,7 @@ step-counts s (within n r q e left w) = within-counts s n r w
 uploads-below : (s : State) → Good s → (n : Name) (u : Upload) → List·Memᴰ u (uploadsIn n s) → u .num < s .next
 uploads-below s g n u m = go (found-or-none (isRoom n) (s .rooms))
   where
-    go : (find (isRoom n) (s .rooms) ≡ []) ⊎ ((r : Room) × (find (isRoom n) (s .rooms) ≡ r ∷ [])) → u .num < s .next
+    go : FoundOrNone (isRoom n) (s .rooms) → u .num < s .next
     go (inl e) = absurd (List·Memᴰ·not-nil (rw e at m))
     go (inr h) = house g .rooms-ok (h .0) (found (isRoom n) (s .rooms) (h .0) [] (h .1) .there) .uploads-ok .each-fits u (rw (h .1) at m) .num-below
 

@@ -14,7 +14,7 @@ use Rattle.meaning.specs.Rooms.{Part, Upload}
 use Rattle.meaning.specs.Does.{bytes, nameOk, isUpload, setPart, joined}
 use Rattle.meaning.specs.Laws.{PartFits, UploadFits}
 use Rattle.meaning.proofs.Good.{Pairs, Earlier, Begun}
-use Rattle.meaning.proofs.Finds.{Found, kept-was, keep-pairs, keep-length, changed-was, change-pairs, change-length, pairs-pushed}
+use Rattle.meaning.proofs.Finds.{Changed, kept-was, keep-pairs, keep-length, changed-was, change-pairs, change-length, pairs-pushed}
 use Rattle.meaning.proofs.Steps.{withPart, others}
 
 pub record Ups (next : ℕ) (us : List Upload) : Type 0 where
@@ -128,7 +128,7 @@ ups-parted {next} u p bs us a b l ok h =
     }
   where
     Was : Upload → Type 0
-    Was y = ((w : Upload) × (y ≡ withPart p bs w) × Found (isUpload u) us w) ⊎ List·Memᴰ y us
+    Was y = Changed (isUpload u) (withPart p bs) us y
 
     fits : PartFits (part p bs)
     fits = record { from-one = a; place-below = b; short = l; of-bytes = ok }
