@@ -90,9 +90,15 @@ heap-longer {now} {next} {keeps} num until v vs t e d h =
       few = omega (arith, h .few, change-length (isNum num) (holdTo until) vs);
       rules-mark = λ l w ws x. let (u, us, a, b) = change-top num until vs w ws x in b ∙ h .rules-mark (sym (change-length (isNum num) (holdTo until) vs) ∙ l) u us a;
       each-fits = λ w m. one w (changed-was (isNum num) (λ _. holdTo until v) vs w (rw (change-as (isNum num) (holdTo until) vs v e) at m));
-      stacked = change-pairs (isNum num) (holdTo until) (Over keeps) (λ x y _ o. record { later = o .later; higher = o .higher; was-held = o .was-held }) (λ x y _ o. record { later = o .later; higher = o .higher; was-held = λ k. omega (arith, o .was-held k, higher-left (y .held) until) }) vs (h .stacked);
+      stacked = change-pairs (isNum num) (holdTo until) (Over keeps) upper lower vs (h .stacked);
     }
   where
+    upper : (x y : Version) → isNum num x ≡ true → Over keeps x y → Over keeps (holdTo until x) y
+    upper x y _ o = record { later = o .later; higher = o .higher; was-held = o .was-held }
+
+    lower : (x y : Version) → isNum num y ≡ true → Over keeps x y → Over keeps x (holdTo until y)
+    lower x y _ o = record { later = o .later; higher = o .higher; was-held = λ k. omega (arith, o .was-held k, higher-left (y .held) until) }
+
     one : (w : Version) → Changed (isNum num) (λ _. holdTo until v) vs w → VersionFits now next w
     one w (inl x) = rw (x .1) (hold-fits until v t d (h .each-fits v (found (isNum num) vs v [] e .there)))
     one w (inr m) = h .each-fits w m
@@ -205,10 +211,16 @@ unfolding aged covered
 heap-aged keeps [] vs p h = h
 heap-aged {now} {next} keeps (x ∷ xs) [] p h = h
 heap-aged {now} {next} keeps (x ∷ xs) (v ∷ vs) p h =
-    heap-tidy _ (cond-both (due now (x .lasts) (v .at) && not (isRemoved (v .body)) && not (isHeld now v)) _ _ (Heap now next keeps) (λ e. takes keeps h (not-true (isRemoved (v .body)) (and-parts (due now (x .lasts) (v .at)) (not (isRemoved (v .body))) (and-parts (due now (x .lasts) (v .at) && not (isRemoved (v .body))) (not (isHeld now v)) e .0) .1))) (λ _. heap-older (x .oldLasts) v vs h))
+    heap-tidy _ (cond-both (goes && not (isHeld now v)) _ _ (Heap now next keeps) (λ e. takes keeps h (has-bytes e)) (λ _. heap-older (x .oldLasts) v vs h))
   where
     old : List Version
     old = oldKept now (x .oldLasts) (v .at) vs
+
+    goes : Bool
+    goes = due now (x .lasts) (v .at) && not (isRemoved (v .body))
+
+    has-bytes : (goes && not (isHeld now v)) ≡ true → isRemoved (v .body) ≡ false
+    has-bytes e = not-true (isRemoved (v .body)) (and-parts (due now (x .lasts) (v .at)) (not (isRemoved (v .body))) (and-parts goes (not (isHeld now v)) e .0) .1)
 
     hides : (ws : List Version) → length ws ≤ 1024 → ((w : Version) → List·Memᴰ w ws → 1 ≤ w .held) → Heap now next false ws → Heap now next false (covered now ws)
     hides [] l k h = h
@@ -223,13 +235,16 @@ pub aged-was-or-mark : (now : ℕ) (keeps : Bool) (xs : List Rule) (vs : List Ve
 unfolding aged covered
 aged-was-or-mark now keeps [] vs w m = inl m
 aged-was-or-mark now keeps (x ∷ xs) [] w m = inl m
-aged-was-or-mark now keeps (x ∷ xs) (v ∷ vs) w m = untidied (tidy-cases untidy)
+aged-was-or-mark now keeps (x ∷ xs) (v ∷ vs) w m = untidied (tidy-cases (left goes keeps))
   where
     old : List Version
     old = oldKept now (x .oldLasts) (v .at) vs
 
-    untidy : List Version
-    untidy = cond (due now (x .lasts) (v .at) && not (isRemoved (v .body)) && not (isHeld now v)) (cond keeps (mark now ∷ v ∷ old) (covered now old)) (v ∷ old)
+    left : Bool → Bool → List Version
+    left b k = cond b (cond k (mark now ∷ v ∷ old) (covered now old)) (v ∷ old)
+
+    goes : Bool
+    goes = due now (x .lasts) (v .at) && not (isRemoved (v .body)) && not (isHeld now v)
 
     Was : Type 0
     Was = List·Memᴰ w (v ∷ vs) ⊎ (w .num ≡ 0)
@@ -249,9 +264,11 @@ aged-was-or-mark now keeps (x ∷ xs) (v ∷ vs) w m = untidied (tidy-cases unti
     hidden [] below m = absurd (List·Memᴰ·not-nil m)
     hidden (u ∷ ws) below m = under-mark (u ∷ ws) below (List·Memᴰ·cases-cons m)
 
-    whole : List·Memᴰ w untidy → Was
-    whole = cond-both (due now (x .lasts) (v .at) && not (isRemoved (v .body)) && not (isHeld now v)) (cond keeps (mark now ∷ v ∷ old) (covered now old)) (v ∷ old) (λ ws. List·Memᴰ w ws → Was) (λ _. cond-both keeps (mark now ∷ v ∷ old) (covered now old) (λ ws. List·Memᴰ w ws → Was) (λ _ m. under-mark (v ∷ old) (λ m′. latest (List·Memᴰ·cases-cons m′)) (List·Memᴰ·cases-cons m)) (λ _ m. hidden old older m)) (λ _ m. latest (List·Memᴰ·cases-cons m))
+    whole : (b k : Bool) → List·Memᴰ w (left b k) → Was
+    whole true true m = under-mark (v ∷ old) (λ m′. latest (List·Memᴰ·cases-cons m′)) (List·Memᴰ·cases-cons m)
+    whole true false m = hidden old older m
+    whole false k m = latest (List·Memᴰ·cases-cons m)
 
-    untidied : (tidy untidy ≡ []) ⊎ (tidy untidy ≡ untidy) → Was
+    untidied : (tidy (left goes keeps) ≡ []) ⊎ (tidy (left goes keeps) ≡ left goes keeps) → Was
     untidied (inl e) = absurd (List·Memᴰ·not-nil (subst (List·Memᴰ w) e m))
-    untidied (inr e) = whole (subst (List·Memᴰ w) e m)
+    untidied (inr e) = whole goes keeps (subst (List·Memᴰ w) e m)

@@ -71,7 +71,7 @@ set-pairs k (v ∷ vs) (o ∷ os) p = go (less k (o .key)) (less (o .key) k) ref
     behind e y (inl t) = rw (t .0) e
     behind e y (inr m) = p .0 y m
 
-    go : (a b : Bool) → less k (o .key) ≡ a → less (o .key) k ≡ b → Pairs Before (setObject k (v ∷ vs) os) → Pairs Before (cond (less k (o .key)) (new ∷ o ∷ os) (cond (less (o .key) k) (o ∷ setObject k (v ∷ vs) os) (new ∷ os)))
+    go : (a b : Bool) → less k (o .key) ≡ a → less (o .key) k ≡ b → Pairs Before (setObject k (v ∷ vs) os) → Pairs Before (setObject k (v ∷ vs) (o ∷ os))
     go true b e d below = rw e (λ y m. front e y (List·Memᴰ·cases-cons m), p)
     go false true e d below = rw (e, d) (λ y m. behind d y (set-was k (v ∷ vs) os y m), below)
     go false false e d below = rw (e, d) (λ y m. rw (less-total k (o .key) e d) (p .0 y m), p .1)
@@ -90,7 +90,7 @@ found-set k [] os p = ap versionsOf (find-nothing (isObject k) (keep (λ (o : Ob
 found-set k (v ∷ vs) [] p = rw (same-refl k) refl
 found-set k (v ∷ vs) (o ∷ os) p = go (less k (o .key)) (less (o .key) k) refl refl (found-set k (v ∷ vs) os (p .1))
   where
-    go : (a b : Bool) → less k (o .key) ≡ a → less (o .key) k ≡ b → versionsOf (find (isObject k) (setObject k (v ∷ vs) os)) ≡ v ∷ vs → versionsOf (find (isObject k) (cond (less k (o .key)) (under k (v ∷ vs) ∷ o ∷ os) (cond (less (o .key) k) (o ∷ setObject k (v ∷ vs) os) (under k (v ∷ vs) ∷ os)))) ≡ v ∷ vs
+    go : (a b : Bool) → less k (o .key) ≡ a → less (o .key) k ≡ b → versionsOf (find (isObject k) (setObject k (v ∷ vs) os)) ≡ v ∷ vs → versionsOf (find (isObject k) (setObject k (v ∷ vs) (o ∷ os))) ≡ v ∷ vs
     go true b e d below = rw (e, same-refl k) refl
     go false true e d below = rw (e, d) (rw (e, d) below)
     go false false e d below = rw (e, d, same-refl k) refl
@@ -101,7 +101,7 @@ found-elsewhere k l [] os h = find-kept (λ (o : Object). not (isObject k o)) (i
 found-elsewhere k l (v ∷ vs) [] h = rw (same-unlike l k h) refl
 found-elsewhere k l (v ∷ vs) (o ∷ os) h = go (less k (o .key)) (less (o .key) k) refl refl (found-elsewhere k l (v ∷ vs) os h)
   where
-    go : (a b : Bool) → less k (o .key) ≡ a → less (o .key) k ≡ b → find (isObject l) (setObject k (v ∷ vs) os) ≡ find (isObject l) os → find (isObject l) (cond (less k (o .key)) (under k (v ∷ vs) ∷ o ∷ os) (cond (less (o .key) k) (o ∷ setObject k (v ∷ vs) os) (under k (v ∷ vs) ∷ os))) ≡ find (isObject l) (o ∷ os)
+    go : (a b : Bool) → less k (o .key) ≡ a → less (o .key) k ≡ b → find (isObject l) (setObject k (v ∷ vs) os) ≡ find (isObject l) os → find (isObject l) (setObject k (v ∷ vs) (o ∷ os)) ≡ find (isObject l) (o ∷ os)
     go true b e d below = rw (e, same-unlike l k h) refl
     go false true e d below = rw (e, d) (ap (λ ps. cond (isObject l o) (o ∷ []) ps) below)
     go false false e d below = rw (e, d, same-unlike l k h, same-unlike l (o .key) (λ x. h (x ∙ sym (less-total k (o .key) e d)))) refl

@@ -29,8 +29,11 @@ bytes-not-removed v bs e = rw e refl
 
 -- RULES
 
--- an older one stays, or is due since the one on top of it came, and isn't held
-old-stays : (now l : ℕ) (u : Version) (vs : List Version) (w : Version) → List·Memᴰ w vs → List·Memᴰ w (oldKept now l (u .at) vs) ⊎ ((z : Version) × OnTopOf z w (u ∷ vs) × T (due now l (z .at)) × (isHeld now w ≡ false))
+-- an older one is due since the one on top of it came, and isn't held
+abbrev OldGone : (now l : ℕ) → Version → List Version → Type 0
+OldGone now l w vs = (z : Version) × OnTopOf z w vs × T (due now l (z .at)) × (isHeld now w ≡ false)
+
+old-stays : (now l : ℕ) (u : Version) (vs : List Version) (w : Version) → List·Memᴰ w vs → List·Memᴰ w (oldKept now l (u .at) vs) ⊎ OldGone now l w (u ∷ vs)
 unfolding oldKept
 old-stays now l u [] w m = absurd (List·Memᴰ·not-nil m)
 old-stays now l u (v ∷ vs) w m = go (due now l (u .at) && not (isHeld now v)) refl (old-stays now l v vs w) (List·Memᴰ·cases-cons m)
@@ -38,16 +41,16 @@ old-stays now l u (v ∷ vs) w m = go (due now l (u .at) && not (isHeld now v)) 
     rest : List Version
     rest = oldKept now l (v .at) vs
 
-    Gone : List Version → Type 0
-    Gone ws = (z : Version) × OnTopOf z w ws × T (due now l (z .at)) × (isHeld now w ≡ false)
+    all : List Version
+    all = oldKept now l (u .at) (v ∷ vs)
 
-    deeper : Gone (v ∷ vs) → Gone (u ∷ v ∷ vs)
+    deeper : OldGone now l w (v ∷ vs) → OldGone now l w (u ∷ v ∷ vs)
     deeper g = (g .0, below (g .1), g .2, g .3)
 
-    behind : (List·Memᴰ w vs → List·Memᴰ w rest ⊎ Gone (v ∷ vs)) → List·Memᴰ w vs → (List·Memᴰ w rest → List·Memᴰ w (cond (due now l (u .at) && not (isHeld now v)) rest (v ∷ rest))) → List·Memᴰ w (cond (due now l (u .at) && not (isHeld now v)) rest (v ∷ rest)) ⊎ Gone (u ∷ v ∷ vs)
+    behind : (List·Memᴰ w vs → List·Memᴰ w rest ⊎ OldGone now l w (v ∷ vs)) → List·Memᴰ w vs → (List·Memᴰ w rest → List·Memᴰ w all) → List·Memᴰ w all ⊎ OldGone now l w (u ∷ v ∷ vs)
     behind earlier m lift = elim (earlier m) [ inl k ↦ inl (lift k) | inr g ↦ inr (deeper g) ]
 
-    go : (b : Bool) → (due now l (u .at) && not (isHeld now v)) ≡ b → (List·Memᴰ w vs → List·Memᴰ w rest ⊎ Gone (v ∷ vs)) → (w ≡ v) ⊎ List·Memᴰ w vs → List·Memᴰ w (cond (due now l (u .at) && not (isHeld now v)) rest (v ∷ rest)) ⊎ Gone (u ∷ v ∷ vs)
+    go : (b : Bool) → (due now l (u .at) && not (isHeld now v)) ≡ b → (List·Memᴰ w vs → List·Memᴰ w rest ⊎ OldGone now l w (v ∷ vs)) → (w ≡ v) ⊎ List·Memᴰ w vs → List·Memᴰ w all ⊎ OldGone now l w (u ∷ v ∷ vs)
     go true e earlier (inl d) = let (a, b) = and-parts (due now l (u .at)) (not (isHeld now v)) e in inr (u, rw d here, so a, rw d (not-true (isHeld now v) b))
     go true e earlier (inr m) = behind earlier m (λ k. rw e k)
     go false e earlier (inl d) = rw e (inl (List·Memᴰ·head d))
@@ -158,7 +161,10 @@ module _ (s : State) (n k : Name) (r : Room) (e : find (isRoom n) (s .rooms) ≡
       go false i = inl (still-itself v _ (kept-is (λ (u : Version). not (isNum (w .num) u)) (at' k r) v m (not-from-false (isNum (w .num) v) i)))
   set-stays h (longer num until w t d f) m = go (changed-is (isNum num) (holdTo until) (at' k r) v m)
     where
-      go : List·Memᴰ v (change (isNum num) (holdTo until) (at' k r)) ⊎ ((isNum num v ≡ true) × List·Memᴰ (holdTo until v) (change (isNum num) (holdTo until) (at' k r))) → Fate s n k v (Hold n k num until) (s .now) (change (isNum num) (holdTo until) (at' k r))
+      held : List Version
+      held = change (isNum num) (holdTo until) (at' k r)
+
+      go : List·Memᴰ v held ⊎ ((isNum num v ≡ true) × List·Memᴰ (holdTo until v) held) → Fate s n k v (Hold n k num until) (s .now) held
       go (inl m) = inl (still-itself v _ m)
       go (inr t) = inl (record { found = holdTo until v; there = t .1; num = refl; body = refl; at = refl; held = higher-left (v .held) until })
 

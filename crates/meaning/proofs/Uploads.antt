@@ -93,7 +93,7 @@ part-pairs p bs (x ∷ xs) h = go (ltb p (x .place)) (eqb p (x .place)) refl ref
     behind l y (inl e) = rw e l
     behind l y (inr m) = h .0 y m
 
-    go : (a b : Bool) → ltb p (x .place) ≡ a → eqb p (x .place) ≡ b → Pairs Earlier (setPart p bs xs) → Pairs Earlier (cond (ltb p (x .place)) (part p bs ∷ x ∷ xs) (cond (eqb p (x .place)) (part p bs ∷ xs) (x ∷ setPart p bs xs)))
+    go : (a b : Bool) → ltb p (x .place) ≡ a → eqb p (x .place) ≡ b → Pairs Earlier (setPart p bs xs) → Pairs Earlier (setPart p bs (x ∷ xs))
     go true b e d below = rw e (λ y m. front (ltb-true p (x .place) e) y (List·Memᴰ·cases-cons m), h)
     go false true e d below = rw (e, d) (λ y m. rw (eqb-true p (x .place) d) (h .0 y m), h .1)
     go false false e d below = let ne = eqb-false p (x .place) d in rw (e, d) (λ y m. behind (omega (arith, ltb-false p (x .place) e)) y (part-was p bs xs y m), below)
