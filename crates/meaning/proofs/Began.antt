@@ -28,7 +28,8 @@ writes-uploads n r k (by-put bs x name l ok) u m = m
 writes-uploads n r k (by-remove e) u m = m
 writes-uploads n r k (by-complete num x y e some d) u m = kept-was (λ (y : Upload). not (isUpload num y)) (r .uploads) u m .there
 
-sets-uploads : (s : State) (n : Name) (r : Room) (k : Name) {c : Call} {reply : Reply} {next : ℕ} {us : List Upload} {vs : List Version} → Sets s n r k c reply next us vs → (u : Upload) → List·Memᴰ u us → List·Memᴰ u (r .uploads)
+sets-uploads : (s : State) (n : Name) (r : Room) (k : Name) {c : Call} {reply : Reply} {next : ℕ} {us : List Upload} {vs : List Version} →
+    Sets s n r k c reply next us vs → (u : Upload) → List·Memᴰ u us → List·Memᴰ u (r .uploads)
 sets-uploads s n r k (new b w l) u m = writes-uploads n r k w u m
 sets-uploads s n r k (gone a b) u m = m
 sets-uploads s n r k (fewer num v z e f) u m = m
@@ -57,7 +58,8 @@ within-uploads s n r (ruled rs few fit) u m = inl (u, m, refl)
 kept-upload : {s t : State} {room : Name} (q : Room) (u : Upload) → List·Memᴰ q (s .rooms) → List·Memᴰ u (q .uploads) → UploadOrigin s t room q u
 kept-upload q u m i = was-there q u m i refl refl
 
-within-from : (s : State) (n : Name) (r q : Room) (next : ℕ) {c : Call} {reply : Reply} → find (isRoom n) (s .rooms) ≡ r ∷ [] → Within s n r c reply next q → UploadSpot s (replaced s next n q)
+within-from : (s : State) (n : Name) (r q : Room) (next : ℕ) {c : Call} {reply : Reply} → find (isRoom n) (s .rooms) ≡ r ∷ [] → Within s n r c reply next q →
+    UploadSpot s (replaced s next n q)
 within-from s n r q next e w = record { room = n; from = λ x u m i. each x u i (changed-was (isRoom n) (λ _. q) (s .rooms) x m) }
   where
     t : State

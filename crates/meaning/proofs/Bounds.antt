@@ -93,7 +93,8 @@ module _ {now next : ℕ} (r : Room) (ok : RoomOk now next r) (k : Name) where
 longer-than-none : {A : Type 0} (xs : List A) (x : A) (ys : List A) → xs ≡ x ∷ ys → 1 ≤ length xs
 longer-than-none xs x ys e = rw e (omega arith)
 
-set-ok : {now next next′ : ℕ} (r : Room) (k : Name) (vs : List Version) (us : List Upload) → next ≤ next′ → RoomOk now next r → Heap now next′ (r .keeps) vs → ((v : Version) (ws : List Version) → vs ≡ v ∷ ws → T (nameOk k)) → Ups next′ us → RoomOk now next′ (withUploads us (withObjects (setObject k vs (r .objects)) r))
+set-ok : {now next next′ : ℕ} (r : Room) (k : Name) (vs : List Version) (us : List Upload) → next ≤ next′ → RoomOk now next r → Heap now next′ (r .keeps) vs →
+    ((v : Version) (ws : List Version) → vs ≡ v ∷ ws → T (nameOk k)) → Ups next′ us → RoomOk now next′ (withUploads us (withObjects (setObject k vs (r .objects)) r))
 set-ok {now} {next} {next′} r k vs us p ok h name ups =
     record {
       name-fits = ok .name-fits;
@@ -144,7 +145,8 @@ pub record RoomStep (s : State) (r : Room) (next : ℕ) (q : Room) : Type 0 wher
   pub one-more : next ≤ s .next + 1
   pub ok : RoomOk (s .now) next q
 
-sets-ok : (s : State) (n : Name) (r : Room) (k : Name) {c : Call} {reply : Reply} {next : ℕ} {us : List Upload} {vs : List Version} → 1 ≤ s .next → RoomOk (s .now) (s .next) r → Sets s n r k c reply next us vs → RoomStep s r next (withUploads us (withObjects (setObject k vs (r .objects)) r))
+sets-ok : (s : State) (n : Name) (r : Room) (k : Name) {c : Call} {reply : Reply} {next : ℕ} {us : List Upload} {vs : List Version} → 1 ≤ s .next →
+    RoomOk (s .now) (s .next) r → Sets s n r k c reply next us vs → RoomStep s r next (withUploads us (withObjects (setObject k vs (r .objects)) r))
 sets-ok s n r k {us = us} p ok (new b w l) =
     let h = written s n r k p ok w in
     record { no-less = omega arith; one-more = omega arith; ok = set-ok r k _ us (omega arith) ok (heap-on-top (r .keeps) (fresh s b) (at' k r) (h .body-fits) refl refl l (heap-at r ok k)) (λ _ _ _. h .key-fits) (h .uploads-ok) }
@@ -224,7 +226,8 @@ later-now t now = cond-both (ltb now t) t now (λ x. now ≤ x) (λ e. omega (ar
 later-small : (t now : ℕ) → T (small t) → T (small now) → T (small (later t now))
 later-small t now p q = cond-both (ltb now t) t now (λ x. T (small x)) (λ _. p) (λ _. q)
 
-made-house : (s : State) (n : Name) (keeps : Bool) → T (nameOk n) → some (isRoom n) (s .rooms) ≡ false → length (s .rooms) < 256 → House s → House (record { now = s .now; next = s .next; rooms = s .rooms ++ (emptyRoom n keeps ∷ []) })
+made-house : (s : State) (n : Name) (keeps : Bool) → T (nameOk n) → some (isRoom n) (s .rooms) ≡ false → length (s .rooms) < 256 → House s →
+    House (record { now = s .now; next = s .next; rooms = s .rooms ++ (emptyRoom n keeps ∷ []) })
 unfolding every
 made-house s n keeps name free few h =
     record {
@@ -270,7 +273,8 @@ told-house s t p h =
       rooms-ok = λ r m. let (x, there, e) = Memᴰ·of-map (agedRoom (later t (s .now))) (s .rooms) m in rw (← e) (aged-ok x (later-now t (s .now)) (h .next-from-one) (h .rooms-ok x there));
     }
 
-within-house : (s : State) (n : Name) (r q : Room) (next : ℕ) → find (isRoom n) (s .rooms) ≡ r ∷ [] → s .next < 4611686018427387904 → House s → q .name ≡ r .name → RoomStep s r next q → House (record { now = s .now; next = next; rooms = change (isRoom n) (λ _. q) (s .rooms) })
+within-house : (s : State) (n : Name) (r q : Room) (next : ℕ) → find (isRoom n) (s .rooms) ≡ r ∷ [] → s .next < 4611686018427387904 → House s → q .name ≡ r .name →
+    RoomStep s r next q → House (record { now = s .now; next = next; rooms = change (isRoom n) (λ _. q) (s .rooms) })
 within-house s n r q next e left h named w =
     record {
       few-rooms = omega (arith, change-length (isRoom n) (λ _. q) (s .rooms), h .few-rooms);
@@ -333,7 +337,8 @@ uploads-step s {c} {o} g spot ups = record { one-room = λ r q u w m n i j e. ro
     rooms r q u w e (began a b quiet) (was-there q₀ w₀ n j a′ b′) = absurd (omega (arith, fits q₀ w₀ n j .num-below))
     rooms r q u w e (began a b quiet) (began a′ b′ quiet′) = a ∙ sym a′
 
-    apart : (r : Room) (u : Upload) (n k : Name) (v : Version) → List·Memᴰ v (versionsIn n k (o .state)) → u .num ≡ v .num → UploadOrigin s (o .state) (ups .room) r u → Origin s (spot .room) (spot .key) n k v → ⊥
+    apart : (r : Room) (u : Upload) (n k : Name) (v : Version) → List·Memᴰ v (versionsIn n k (o .state)) → u .num ≡ v .num → UploadOrigin s (o .state) (ups .room) r u →
+        Origin s (spot .room) (spot .key) n k v → ⊥
     apart r u n k v j e (was-there r₀ u₀ m i a b) (was v₀ j₀ p) = g .uploads-once .no-version r₀ u₀ n k v₀ m i j₀ (sym b ∙ e ∙ p .num)
     apart r u n k v j e (was-there r₀ u₀ m i a b) (came x y d) = omega (arith, fits r₀ u₀ m i .num-below)
     apart r u n k v j e (was-there r₀ u₀ m i a b) (marks z) = omega (arith, fits r₀ u₀ m i .from-one)

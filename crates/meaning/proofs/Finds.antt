@@ -112,7 +112,8 @@ module _ {A : Type 0} (f : A → Bool) where
   change-as g [] x e = refl
   change-as g (y ∷ xs) x e = go (f y) refl (change-as g xs x)
     where
-      go : (b : Bool) → f y ≡ b → (find f xs ≡ x ∷ [] → change f g xs ≡ change f (λ _. g x) xs) → cond (f y) (g y ∷ xs) (y ∷ change f g xs) ≡ cond (f y) (g x ∷ xs) (y ∷ change f (λ _. g x) xs)
+      go : (b : Bool) → f y ≡ b → (find f xs ≡ x ∷ [] → change f g xs ≡ change f (λ _. g x) xs) →
+          cond (f y) (g y ∷ xs) (y ∷ change f g xs) ≡ cond (f y) (g x ∷ xs) (y ∷ change f (λ _. g x) xs)
       go true p below = let q : y ≡ x = cc in rw (p, q) refl
       go false p below = rw p (ap (λ zs. y ∷ zs) (below (rw p at e)))
 
@@ -121,7 +122,8 @@ module _ {A : Type 0} (f : A → Bool) where
   change-again g y [] h = refl
   change-again g y (x ∷ xs) h = go (f x) refl (change-again g y xs h)
     where
-      go : (b : Bool) → f x ≡ b → change f g (change f (λ _. y) xs) ≡ change f (λ _. g y) xs → change f g (cond (f x) (y ∷ xs) (x ∷ change f (λ _. y) xs)) ≡ cond (f x) (g y ∷ xs) (x ∷ change f (λ _. g y) xs)
+      go : (b : Bool) → f x ≡ b → change f g (change f (λ _. y) xs) ≡ change f (λ _. g y) xs →
+          change f g (cond (f x) (y ∷ xs) (x ∷ change f (λ _. y) xs)) ≡ cond (f x) (g y ∷ xs) (x ∷ change f (λ _. g y) xs)
       go true p below = rw (p, h) refl
       go false p below = rw p (rw p (ap (λ zs. x ∷ zs) below))
 
@@ -168,7 +170,8 @@ module _ {A : Type 0} (f : A → Bool) where
       go false p below (inl e) = rw p (inl (List·Memᴰ·head e))
       go false p below (inr m) = rw p (deeper (below m))
 
-  pub change-pairs : (g : A → A) (R : A → A → Type 0) → ((x y : A) → f x ≡ true → R x y → R (g x) y) → ((x y : A) → f y ≡ true → R x y → R x (g y)) → (xs : List A) → Pairs R xs → Pairs R (change f g xs)
+  pub change-pairs : (g : A → A) (R : A → A → Type 0) → ((x y : A) → f x ≡ true → R x y → R (g x) y) → ((x y : A) → f y ≡ true → R x y → R x (g y)) → (xs : List A) →
+      Pairs R xs → Pairs R (change f g xs)
   unfolding change
   change-pairs g R upper lower [] p = tt
   change-pairs g R upper lower (x ∷ xs) p =

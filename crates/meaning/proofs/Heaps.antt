@@ -75,7 +75,8 @@ hold-fits until v t e f =
     }
 
 -- the latest keeps its number
-change-top : (num until : ℕ) (vs : List Version) (v : Version) (ws : List Version) → change (isNum num) (holdTo until) vs ≡ v ∷ ws → (u : Version) × (us : List Version) × (vs ≡ u ∷ us) × (v .num ≡ u .num)
+change-top : (num until : ℕ) (vs : List Version) (v : Version) (ws : List Version) → change (isNum num) (holdTo until) vs ≡ v ∷ ws →
+    (u : Version) × (us : List Version) × (vs ≡ u ∷ us) × (v .num ≡ u .num)
 unfolding change
 change-top num until [] v ws e = absurd (let z : _≡_ {A = ℕ} 0 1 = cc in omega arith)
 change-top num until (u ∷ us) v ws e = (u, us, refl, go (isNum num u) refl)
@@ -84,7 +85,8 @@ change-top num until (u ∷ us) v ws e = (u, us, refl, go (isNum num u) refl)
     go true d = let e′ : holdTo until u ∷ us ≡ v ∷ ws = rw d at e in let x : v ≡ holdTo until u = cc in rw x refl
     go false d = let e′ : u ∷ change (isNum num) (holdTo until) us ≡ v ∷ ws = rw d at e in let x : v ≡ u = cc in rw x refl
 
-pub heap-longer : {now next : ℕ} {keeps : Bool} (num until : ℕ) (v : Version) (vs : List Version) → T (small until) → find (isNum num) vs ≡ v ∷ [] → isRemoved (v .body) ≡ false → Heap now next keeps vs → Heap now next keeps (change (isNum num) (holdTo until) vs)
+pub heap-longer : {now next : ℕ} {keeps : Bool} (num until : ℕ) (v : Version) (vs : List Version) → T (small until) → find (isNum num) vs ≡ v ∷ [] →
+    isRemoved (v .body) ≡ false → Heap now next keeps vs → Heap now next keeps (change (isNum num) (holdTo until) vs)
 heap-longer {now} {next} {keeps} num until v vs t e d h =
     record {
       few = omega (arith, h .few, change-length (isNum num) (holdTo until) vs);
@@ -104,7 +106,8 @@ heap-longer {now} {next} {keeps} num until v vs t e d h =
     one w (inr m) = h .each-fits w m
 
 -- one that comes on top
-pub heap-on-top : {now next : ℕ} (keeps : Bool) (v : Version) (vs : List Version) → VersionFits now (next + 1) v → v .at ≡ now → v .num ≡ next → length vs < 1024 → Heap now next keeps vs → Heap now (next + 1) keeps (onTop now keeps v vs)
+pub heap-on-top : {now next : ℕ} (keeps : Bool) (v : Version) (vs : List Version) → VersionFits now (next + 1) v → v .at ≡ now → v .num ≡ next → length vs < 1024 →
+    Heap now next keeps vs → Heap now (next + 1) keeps (onTop now keeps v vs)
 heap-on-top {now} {next} true v vs f a n l h =
     record {
       few = omega arith;
@@ -175,7 +178,8 @@ mark-fits now next p =
     }
 
 -- a mark on top of what fits, with room for it
-heap-marked : {now next : ℕ} {keeps : Bool} (vs : List Version) → 1 ≤ next → length vs ≤ 1024 → ((w : Version) → List·Memᴰ w vs → keeps ≡ false → 1 ≤ w .held) → Heap now next keeps vs → Heap now next keeps (mark now ∷ vs)
+heap-marked : {now next : ℕ} {keeps : Bool} (vs : List Version) → 1 ≤ next → length vs ≤ 1024 → ((w : Version) → List·Memᴰ w vs → keeps ≡ false → 1 ≤ w .held) →
+    Heap now next keeps vs → Heap now next keeps (mark now ∷ vs)
 heap-marked {now} {next} vs p l k h =
     record {
       few = omega arith;

@@ -21,8 +21,10 @@ use Rattle.meaning.proofs.Heaps.{aged-was-or-mark, higher-left}
 -- now: the time after the call; room and key: the one place where versions may be set
 pub data Moves (s : State) (now : ℕ) (room key n k : Name) : Call → List Version → Type 0 where
   stay : {c : Call} → Moves s now room key n k c (versionsIn n k s)
-  set : {c : Call} {reply : Reply} {next : ℕ} {us : List Upload} {vs : List Version} (r : Room) → now ≡ s .now → n ≡ room → k ≡ key → find (isRoom n) (s .rooms) ≡ r ∷ [] → Sets s n r k c reply next us vs → Moves s now room key n k c vs
-  ages : (t : ℕ) (r : Room) → now ≡ later t (s .now) → find (isRoom n) (s .rooms) ≡ r ∷ [] → Moves s now room key n k (Tick t) (aged (later t (s .now)) (r .keeps) (ruleFor k (r .rules)) (at' k r))
+  set : {c : Call} {reply : Reply} {next : ℕ} {us : List Upload} {vs : List Version} (r : Room) → now ≡ s .now → n ≡ room → k ≡ key →
+      find (isRoom n) (s .rooms) ≡ r ∷ [] → Sets s n r k c reply next us vs → Moves s now room key n k c vs
+  ages : (t : ℕ) (r : Room) → now ≡ later t (s .now) → find (isRoom n) (s .rooms) ≡ r ∷ [] →
+      Moves s now room key n k (Tick t) (aged (later t (s .now)) (r .keeps) (ruleFor k (r .rules)) (at' k r))
 
 pub record Spot (s : State) (c : Call) (o : Out) : Type 0 where
   pub room : Name
@@ -55,7 +57,8 @@ made-moves s n keeps m l = go (find-pushed (isRoom m) (emptyRoom n keeps) (s .ro
     go (inl e) = versions-same m l s t e
     go (inr h) = versions-found m l t (emptyRoom n keeps) (h .2) ∙ sym (versions-none m l s (h .0))
 
-dropped-moves : (s : State) (n : Name) (r : Room) → find (isRoom n) (s .rooms) ≡ r ∷ [] → r .objects ≡ [] → (m l : Name) → versionsIn m l (record { now = s .now; next = s .next; rooms = without n (s .rooms) }) ≡ versionsIn m l s
+dropped-moves : (s : State) (n : Name) (r : Room) → find (isRoom n) (s .rooms) ≡ r ∷ [] → r .objects ≡ [] → (m l : Name) →
+    versionsIn m l (record { now = s .now; next = s .next; rooms = without n (s .rooms) }) ≡ versionsIn m l s
 unfolding find versionsOf
 dropped-moves s n r e none m l = go (same m n) refl
   where
@@ -113,7 +116,8 @@ module _ (s : State) (n : Name) (r q : Room) (e : find (isRoom n) (s .rooms) ≡
       go true d = rw (same-eq m n d) (replaced-here k ∙ ap (λ os. versionsOf (find (isObject k) os)) o ∙ sym (versions-found n k s r e))
       go false d = replaced-elsewhere m k (same-not m n d)
 
-set-moves : {c : Call} {reply : Reply} {next : ℕ} {us : List Upload} {vs : List Version} (s : State) (n : Name) (r : Room) (k : Name) → Pairs Before (r .objects) → find (isRoom n) (s .rooms) ≡ r ∷ [] → Sets s n r k c reply next us vs →
+set-moves : {c : Call} {reply : Reply} {next : ℕ} {us : List Upload} {vs : List Version} (s : State) (n : Name) (r : Room) (k : Name) → Pairs Before (r .objects) →
+    find (isRoom n) (s .rooms) ≡ r ∷ [] → Sets s n r k c reply next us vs →
     (m l : Name) → Moves s (s .now) n k m l c (versionsIn m l (replaced s next n (withUploads us (withObjects (setObject k vs (r .objects)) r))))
 set-moves {c} {next} {us} {vs} s n r k rise e h m l = go (same m n) (same l k) refl refl
   where
@@ -125,7 +129,8 @@ set-moves {c} {next} {us} {vs} s n r k rise e h m l = go (same m n) (same l k) r
     go true false i j = unmoved (rw (same-eq m n i) (replaced-here s n r q e refl next l ∙ ap versionsOf (found-elsewhere k l vs (r .objects) (same-not l k j)) ∙ sym (versions-found n l s r e)))
     go false b i j = unmoved (replaced-elsewhere s n r q e refl next m l (same-not m n i))
 
-within-moves : (s : State) (n : Name) (r : Room) {c : Call} {reply : Reply} {next : ℕ} (q : Room) → Good s → find (isRoom n) (s .rooms) ≡ r ∷ [] → Within s n r c reply next q → Spot s c (record { reply = reply; state = replaced s next n q })
+within-moves : (s : State) (n : Name) (r : Room) {c : Call} {reply : Reply} {next : ℕ} (q : Room) → Good s → find (isRoom n) (s .rooms) ≡ r ∷ [] →
+    Within s n r c reply next q → Spot s c (record { reply = reply; state = replaced s next n q })
 within-moves s n r q g e (sets k h) = record { room = n; key = k; moves = set-moves s n r k (g .rooms-good r (found (isRoom n) (s .rooms) r [] e .there) .keys-rise) e h }
 within-moves s n r q g e (begun k ok few) = nowhere (replaced-same s n r _ e refl (s .next + 1) refl)
 within-moves s n r q g e (parted u p bs a b l ok) = nowhere (replaced-same s n r _ e refl (s .next) refl)

@@ -90,7 +90,8 @@ found-set k [] os p = ap versionsOf (find-nothing (isObject k) (keep (λ (o : Ob
 found-set k (v ∷ vs) [] p = rw (same-refl k) refl
 found-set k (v ∷ vs) (o ∷ os) p = go (less k (o .key)) (less (o .key) k) refl refl (found-set k (v ∷ vs) os (p .1))
   where
-    go : (a b : Bool) → less k (o .key) ≡ a → less (o .key) k ≡ b → versionsOf (find (isObject k) (setObject k (v ∷ vs) os)) ≡ v ∷ vs → versionsOf (find (isObject k) (setObject k (v ∷ vs) (o ∷ os))) ≡ v ∷ vs
+    go : (a b : Bool) → less k (o .key) ≡ a → less (o .key) k ≡ b → versionsOf (find (isObject k) (setObject k (v ∷ vs) os)) ≡ v ∷ vs →
+        versionsOf (find (isObject k) (setObject k (v ∷ vs) (o ∷ os))) ≡ v ∷ vs
     go true b e d below = rw (e, same-refl k) refl
     go false true e d below = rw (e, d) (rw (e, d) below)
     go false false e d below = rw (e, d, same-refl k) refl
@@ -101,7 +102,8 @@ found-elsewhere k l [] os h = find-kept (λ (o : Object). not (isObject k o)) (i
 found-elsewhere k l (v ∷ vs) [] h = rw (same-unlike l k h) refl
 found-elsewhere k l (v ∷ vs) (o ∷ os) h = go (less k (o .key)) (less (o .key) k) refl refl (found-elsewhere k l (v ∷ vs) os h)
   where
-    go : (a b : Bool) → less k (o .key) ≡ a → less (o .key) k ≡ b → find (isObject l) (setObject k (v ∷ vs) os) ≡ find (isObject l) os → find (isObject l) (setObject k (v ∷ vs) (o ∷ os)) ≡ find (isObject l) (o ∷ os)
+    go : (a b : Bool) → less k (o .key) ≡ a → less (o .key) k ≡ b → find (isObject l) (setObject k (v ∷ vs) os) ≡ find (isObject l) os →
+        find (isObject l) (setObject k (v ∷ vs) (o ∷ os)) ≡ find (isObject l) (o ∷ os)
     go true b e d below = rw (e, same-unlike l k h) refl
     go false true e d below = rw (e, d) (ap (λ ps. cond (isObject l o) (o ∷ []) ps) below)
     go false false e d below = rw (e, d, same-unlike l k h, same-unlike l (o .key) (λ x. h (x ∙ sym (less-total k (o .key) e d)))) refl
@@ -116,7 +118,8 @@ module _ (now : ℕ) (r : Room) where
   left : Name → List Version → List Version
   left k vs = aged now (r .keeps) (ruleFor k (r .rules)) vs
 
-  pub aged-was : (os : List Object) (o : Object) → List·Memᴰ o (agedObjects now r os) → (p : Object) × List·Memᴰ p os × (o .key ≡ p .key) × (o .versions ≡ aged now (r .keeps) (ruleFor (p .key) (r .rules)) (p .versions)) × ((v : Version) × (vs : List Version) × (o .versions ≡ v ∷ vs))
+  pub aged-was : (os : List Object) (o : Object) → List·Memᴰ o (agedObjects now r os) →
+      (p : Object) × List·Memᴰ p os × (o .key ≡ p .key) × (o .versions ≡ aged now (r .keeps) (ruleFor (p .key) (r .rules)) (p .versions)) × ((v : Version) × (vs : List Version) × (o .versions ≡ v ∷ vs))
   unfolding agedObjects kept left
   aged-was [] o m = absurd (List·Memᴰ·not-nil m)
   aged-was (p ∷ os) o m = go (left (p .key) (p .versions)) refl (aged-was os o)
@@ -127,7 +130,8 @@ module _ (now : ℕ) (r : Room) where
       deeper : Was os → Was (p ∷ os)
       deeper t = (t .0, List·Memᴰ·tail (t .1), t .2, t .3, t .4)
 
-      first : (v : Version) (vs : List Version) → left (p .key) (p .versions) ≡ v ∷ vs → (List·Memᴰ o (agedObjects now r os) → Was os) → (o ≡ under (p .key) (v ∷ vs)) ⊎ List·Memᴰ o (agedObjects now r os) → Was (p ∷ os)
+      first : (v : Version) (vs : List Version) → left (p .key) (p .versions) ≡ v ∷ vs → (List·Memᴰ o (agedObjects now r os) → Was os) →
+          (o ≡ under (p .key) (v ∷ vs)) ⊎ List·Memᴰ o (agedObjects now r os) → Was (p ∷ os)
       first v vs e below (inl d) = (p, List·Memᴰ·head refl, ap (λ (x : Object). x .key) d, ap (λ (x : Object). x .versions) d ∙ sym e, (v, vs, ap (λ (x : Object). x .versions) d))
       first v vs e below (inr m) = deeper (below m)
 
@@ -145,7 +149,8 @@ module _ (now : ℕ) (r : Room) where
       go (v ∷ vs) below = (λ y m. let t = aged-was os y m in rw (t .2) (p .0 (t .0) (t .1)), below)
 
   -- under a key stands what the rules leave of what stood there
-  pub found-aged : (k : Name) (os : List Object) → Pairs Before os → versionsOf (find (isObject k) (agedObjects now r os)) ≡ aged now (r .keeps) (ruleFor k (r .rules)) (versionsOf (find (isObject k) os))
+  pub found-aged : (k : Name) (os : List Object) → Pairs Before os →
+      versionsOf (find (isObject k) (agedObjects now r os)) ≡ aged now (r .keeps) (ruleFor k (r .rules)) (versionsOf (find (isObject k) os))
   unfolding agedObjects kept left find versionsOf
   found-aged k [] p = sym (aged-none now (r .keeps) (ruleFor k (r .rules)))
   found-aged k (o ∷ os) p = go (same k (o .key)) refl (left (o .key) (o .versions)) refl (found-aged k os (p .1))

@@ -50,7 +50,8 @@ old-stays now l u (v ∷ vs) w m = go (due now l (u .at) && not (isHeld now v)) 
     behind : (List·Memᴰ w vs → List·Memᴰ w rest ⊎ OldGone now l w (v ∷ vs)) → List·Memᴰ w vs → (List·Memᴰ w rest → List·Memᴰ w all) → List·Memᴰ w all ⊎ OldGone now l w (u ∷ v ∷ vs)
     behind earlier m lift = elim (earlier m) [ inl k ↦ inl (lift k) | inr g ↦ inr (deeper g) ]
 
-    go : (b : Bool) → (due now l (u .at) && not (isHeld now v)) ≡ b → (List·Memᴰ w vs → List·Memᴰ w rest ⊎ OldGone now l w (v ∷ vs)) → (w ≡ v) ⊎ List·Memᴰ w vs → List·Memᴰ w all ⊎ OldGone now l w (u ∷ v ∷ vs)
+    go : (b : Bool) → (due now l (u .at) && not (isHeld now v)) ≡ b → (List·Memᴰ w vs → List·Memᴰ w rest ⊎ OldGone now l w (v ∷ vs)) → (w ≡ v) ⊎ List·Memᴰ w vs →
+        List·Memᴰ w all ⊎ OldGone now l w (u ∷ v ∷ vs)
     go true e earlier (inl d) = let (a, b) = and-parts (due now l (u .at)) (not (isHeld now v)) e in inr (u, rw d here, so a, rw d (not-true (isHeld now v) b))
     go true e earlier (inr m) = behind earlier m (λ k. rw e k)
     go false e earlier (inl d) = rw e (inl (List·Memᴰ·head d))
@@ -74,7 +75,8 @@ unfolding covered
 covered-stays now [] w m = m
 covered-stays now (v ∷ vs) w m = List·Memᴰ·tail m
 
-aged-stays : (now : ℕ) (keeps : Bool) (x : Rule) (vs : List Version) (w : Version) → isRemoved (w .body) ≡ false → List·Memᴰ w vs → List·Memᴰ w (aged now keeps (x ∷ []) vs) ⊎ (DueBy now keeps x w vs × (isHeld now w ≡ false))
+aged-stays : (now : ℕ) (keeps : Bool) (x : Rule) (vs : List Version) (w : Version) → isRemoved (w .body) ≡ false → List·Memᴰ w vs →
+    List·Memᴰ w (aged now keeps (x ∷ []) vs) ⊎ (DueBy now keeps x w vs × (isHeld now w ≡ false))
 unfolding aged
 aged-stays now keeps x [] w bytes m = absurd (List·Memᴰ·not-nil m)
 aged-stays now keeps x (v ∷ vs) w bytes m = at-place (List·Memᴰ·cases-cons m)
@@ -143,7 +145,8 @@ module _ (s : State) (n k : Name) (r : Room) (e : find (isRoom n) (s .rooms) ≡
       go false true i j = inl (still-itself v _ (List·Memᴰ·tail (rw i (kept-is (isHeld (s .now)) (at' k r) v m j))))
       go false false i j = inr (writes-may i w, not-held (s .now) v j)
 
-  set-stays : {c : Call} {reply : Reply} {next : ℕ} {us : List Upload} {vs : List Version} {now nx : ℕ} {keeps : Bool} → Heap now nx keeps (at' k r) → Sets s n r k c reply next us vs → List·Memᴰ v (at' k r) → Fate s n k v c (s .now) vs
+  set-stays : {c : Call} {reply : Reply} {next : ℕ} {us : List Upload} {vs : List Version} {now nx : ℕ} {keeps : Bool} → Heap now nx keeps (at' k r) →
+      Sets s n r k c reply next us vs → List·Memᴰ v (at' k r) → Fate s n k v c (s .now) vs
   set-stays h (new b w l) m = top-stays w m
   set-stays h (gone a b) m = inr (by-removing (rw e a), not-held (s .now) v (not-some (isHeld (s .now)) (at' k r) b v m))
   set-stays h (fewer num w z d f) m = go (isNum (w .num) v) refl
@@ -179,7 +182,8 @@ module _ (s : State) (n k : Name) (r : Room) (e : find (isRoom n) (s .rooms) ≡
       go (inl d) = rw d (inl (still-itself v _ m))
       go (inr h) = rw (h .1) (elim (aged-stays now (r .keeps) (h .0) (at' k r) v bytes m) [ inl i ↦ inl (still-itself v _ i) | inr g ↦ inr (by-rule t r (h .0) e (h .1) (g .0), not-held now v (g .1)) ])
 
-moves-stays : (s : State) (n k room key : Name) (now : ℕ) {c : Call} {vs : List Version} → Good s → Moves s now room key n k c vs → (v : Version) (bs : List ℕ) → List·Memᴰ v (versionsIn n k s) → v .body ≡ Bytes bs → Fate s n k v c now vs
+moves-stays : (s : State) (n k room key : Name) (now : ℕ) {c : Call} {vs : List Version} → Good s → Moves s now room key n k c vs → (v : Version) (bs : List ℕ) →
+    List·Memᴰ v (versionsIn n k s) → v .body ≡ Bytes bs → Fate s n k v c now vs
 moves-stays s n k room key now g stay v bs m b = inl (still-itself v _ m)
 moves-stays s n k room key now {c} {vs} g (set r i _ _ e h) v bs m b = rw i (set-stays s n k r e v (rw (versions-found n k s r e) at (heap-in s g n k)) h (rw (versions-found n k s r e) at m))
 moves-stays s n k room key now g (ages t r i e) v bs m b = rw i (ages-stays s n k r e v t (bytes-not-removed v bs b) (rw (versions-found n k s r e) at m))

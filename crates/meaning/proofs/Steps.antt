@@ -38,20 +38,27 @@ withRules rs r = record { name = r .name; keeps = r .keeps; rules = rs; objects 
 pub data Writes (n : Name) (r : Room) (k : Name) : Call → List Upload → Body → Type 0 where
   by-put : (bs : List ℕ) (x : Expect) → T (nameOk k) → length bs ≤ 5242880 → T (bytes bs) → Writes n r k (Put n k bs x) (r .uploads) (Bytes bs)
   by-remove : none (current (at' k r)) ≡ false → Writes n r k (Remove n k 0) (r .uploads) Removed
-  by-complete : (u : ℕ) (x : Expect) (y : Upload) → find (isUpload u) (r .uploads) ≡ y ∷ [] → none (y .parts) ≡ false → y .key ≡ k → Writes n r k (Complete n u x) (others u (r .uploads)) (Bytes (joined (y .parts)))
+  by-complete : (u : ℕ) (x : Expect) (y : Upload) → find (isUpload u) (r .uploads) ≡ y ∷ [] → none (y .parts) ≡ false → y .key ≡ k →
+      Writes n r k (Complete n u x) (others u (r .uploads)) (Bytes (joined (y .parts)))
 
 -- the calls that set the versions of a key: the reply, the next number, the uploads and the versions that are left
 pub data Sets (s : State) (n : Name) (r : Room) (k : Name) : Call → Reply → ℕ → List Upload → List Version → Type 0 where
-  new : {c : Call} {us : List Upload} (b : Body) → Writes n r k c us b → length (at' k r) < 1024 → Sets s n r k c (Num (s .next)) (s .next + 1) us (onTop (s .now) (r .keeps) (fresh s b) (at' k r))
+  new : {c : Call} {us : List Upload} (b : Body) → Writes n r k c us b → length (at' k r) < 1024 →
+      Sets s n r k c (Num (s .next)) (s .next + 1) us (onTop (s .now) (r .keeps) (fresh s b) (at' k r))
   gone : r .keeps ≡ false → some (isHeld (s .now)) (at' k r) ≡ false → Sets s n r k (Remove n k 0) Yes (s .next) (r .uploads) []
-  fewer : (num : ℕ) (v : Version) → (num ≡ 0 → ⊥) → find (isNum num) (at' k r) ≡ v ∷ [] → isHeld (s .now) v ≡ false → Sets s n r k (Remove n k num) Yes (s .next) (r .uploads) (keep (λ (w : Version). not (isNum (v .num) w)) (at' k r))
-  longer : (num until : ℕ) (v : Version) → T (small until) → find (isNum num) (at' k r) ≡ v ∷ [] → isRemoved (v .body) ≡ false → Sets s n r k (Hold n k num until) Yes (s .next) (r .uploads) (change (isNum num) (holdTo until) (at' k r))
+  fewer : (num : ℕ) (v : Version) → (num ≡ 0 → ⊥) → find (isNum num) (at' k r) ≡ v ∷ [] → isHeld (s .now) v ≡ false →
+      Sets s n r k (Remove n k num) Yes (s .next) (r .uploads) (keep (λ (w : Version). not (isNum (v .num) w)) (at' k r))
+  longer : (num until : ℕ) (v : Version) → T (small until) → find (isNum num) (at' k r) ≡ v ∷ [] → isRemoved (v .body) ≡ false →
+      Sets s n r k (Hold n k num until) Yes (s .next) (r .uploads) (change (isNum num) (holdTo until) (at' k r))
 
 -- the calls that change one room
 pub data Within (s : State) (n : Name) (r : Room) : Call → Reply → ℕ → Room → Type 0 where
-  sets : {c : Call} {reply : Reply} {next : ℕ} {us : List Upload} {vs : List Version} (k : Name) → Sets s n r k c reply next us vs → Within s n r c reply next (withUploads us (withObjects (setObject k vs (r .objects)) r))
-  begun : (k : Name) → T (nameOk k) → length (r .uploads) < 1024 → Within s n r (Begin n k) (Num (s .next)) (s .next + 1) (withUploads (r .uploads ++ (record { num = s .next; key = k; parts = [] } ∷ [])) r)
-  parted : (u p : ℕ) (bs : List ℕ) → 1 ≤ p → p ≤ 10000 → length bs ≤ 5242880 → T (bytes bs) → Within s n r (PutPart n u p bs) Yes (s .next) (withUploads (change (isUpload u) (withPart p bs) (r .uploads)) r)
+  sets : {c : Call} {reply : Reply} {next : ℕ} {us : List Upload} {vs : List Version} (k : Name) → Sets s n r k c reply next us vs →
+      Within s n r c reply next (withUploads us (withObjects (setObject k vs (r .objects)) r))
+  begun : (k : Name) → T (nameOk k) → length (r .uploads) < 1024 →
+      Within s n r (Begin n k) (Num (s .next)) (s .next + 1) (withUploads (r .uploads ++ (record { num = s .next; key = k; parts = [] } ∷ [])) r)
+  parted : (u p : ℕ) (bs : List ℕ) → 1 ≤ p → p ≤ 10000 → length bs ≤ 5242880 → T (bytes bs) →
+      Within s n r (PutPart n u p bs) Yes (s .next) (withUploads (change (isUpload u) (withPart p bs) (r .uploads)) r)
   aborted : (u : ℕ) → Within s n r (Abort n u) Yes (s .next) (withUploads (others u (r .uploads)) r)
   ruled : (rs : List Rule) → length rs ≤ 64 → T (every ruleOk rs) → Within s n r (SetRules n rs) Yes (s .next) (withRules rs r)
 
@@ -71,10 +78,12 @@ without n rs = keep (λ (x : Room). not (isRoom n x)) rs
 
 pub data Step (s : State) : Call → Out → Type 0 where
   stands : {c : Call} (r : Reply) → Silent r → Step s c (record { reply = r; state = s })
-  made : (n : Name) (k : Bool) → T (nameOk n) → some (isRoom n) (s .rooms) ≡ false → length (s .rooms) < 256 → Step s (MakeRoom n k) (record { reply = Yes; state = withRooms (s .rooms ++ (emptyRoom n k ∷ [])) s })
+  made : (n : Name) (k : Bool) → T (nameOk n) → some (isRoom n) (s .rooms) ≡ false → length (s .rooms) < 256 →
+      Step s (MakeRoom n k) (record { reply = Yes; state = withRooms (s .rooms ++ (emptyRoom n k ∷ [])) s })
   dropped : (n : Name) (r : Room) → find (isRoom n) (s .rooms) ≡ r ∷ [] → r .objects ≡ [] → Step s (DropRoom n) (record { reply = Yes; state = withRooms (without n (s .rooms)) s })
   told : (t : ℕ) → T (small t) → Step s (Tick t) (record { reply = Yes; state = ticked (later t (s .now)) s })
-  within : {c : Call} {reply : Reply} {next : ℕ} (n : Name) (r q : Room) → find (isRoom n) (s .rooms) ≡ r ∷ [] → s .next < 4611686018427387904 → Within s n r c reply next q → Step s c (record { reply = reply; state = record { now = s .now; next = next; rooms = change (isRoom n) (λ _. q) (s .rooms) } })
+  within : {c : Call} {reply : Reply} {next : ℕ} (n : Name) (r q : Room) → find (isRoom n) (s .rooms) ≡ r ∷ [] → s .next < 4611686018427387904 →
+      Within s n r c reply next q → Step s c (record { reply = reply; state = record { now = s .now; next = next; rooms = change (isRoom n) (λ _. q) (s .rooms) } })
 
 refused : {c : Call} (k : ℕ) (s : State) → Step s c (no k s)
 refused k s = stands (No k) (λ j e. let z : _≡_ {A = ℕ} 0 1 = cc in omega arith)
@@ -89,7 +98,9 @@ unfolding inRoomOr
 inside {s} {c} n f there = at-find (isRoom n) (λ rs. Step s c (inRoomOr rs f s)) (s .rooms) (λ _. refused 2 s) there
 
 -- a change of the room that was found is its replacement
-changes : {c : Call} {reply : Reply} {next : ℕ} (s : State) (n : Name) (r : Room) (f : Room → Room) → find (isRoom n) (s .rooms) ≡ r ∷ [] → s .next < 4611686018427387904 → Within s n r c reply next (f r) → Step s c (record { reply = reply; state = record { now = s .now; next = next; rooms = change (isRoom n) f (s .rooms) } })
+changes : {c : Call} {reply : Reply} {next : ℕ} (s : State) (n : Name) (r : Room) (f : Room → Room) → find (isRoom n) (s .rooms) ≡ r ∷ [] →
+    s .next < 4611686018427387904 → Within s n r c reply next (f r) →
+    Step s c (record { reply = reply; state = record { now = s .now; next = next; rooms = change (isRoom n) f (s .rooms) } })
 changes s n r f e h w = rw (change-as (isRoom n) f (s .rooms) r e) (within n r (f r) e h w)
 
 -- a put in a room: refused, or a new version on top

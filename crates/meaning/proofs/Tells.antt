@@ -85,14 +85,16 @@ tells-now s g n m k l v w i j one e = let (a, b) = g .once n m k l v w i j one e
     at-place a b (inr (inr o)) = absurd (omega (arith, o .higher (omega arith)))
 
 -- a version with a number that there was came from one with it, so it still says the same
-tells-later : {s t : State} → Good s → Run s t → (n m k l : Name) (v w : Version) → List·Memᴰ v (versionsIn n k s) → List·Memᴰ w (versionsIn m l t) → 1 ≤ v .num → v .num ≡ w .num → Same n m k l v w
+tells-later : {s t : State} → Good s → Run s t → (n m k l : Name) (v w : Version) → List·Memᴰ v (versionsIn n k s) → List·Memᴰ w (versionsIn m l t) → 1 ≤ v .num →
+    v .num ≡ w .num → Same n m k l v w
 tells-later {s} g still n m k l v w i j one e = tells-now s g n m k l v w i j one e
 tells-later {s} g (onward {t = t} c run) n m k l v w i j one e = go (tells-later g run n m k l v) (origin t _ _ m l (spot .moves m l) w j)
   where
     spot : Spot t c (does c t)
     spot = moves t (good-run g run) (steps c t)
 
-    go : ((u : Version) → List·Memᴰ v (versionsIn n k s) → List·Memᴰ u (versionsIn m l t) → 1 ≤ v .num → v .num ≡ u .num → Same n m k l v u) → Origin t (spot .room) (spot .key) m l w → Same n m k l v w
+    go : ((u : Version) → List·Memᴰ v (versionsIn n k s) → List·Memᴰ u (versionsIn m l t) → 1 ≤ v .num → v .num ≡ u .num → Same n m k l v u) →
+        Origin t (spot .room) (spot .key) m l w → Same n m k l v w
     go earlier (was u j p) =
         let h = earlier u i j one (e ∙ p .num) in
         record { body = h .body ∙ sym (p .body); at = h .at ∙ sym (p .at); room = h .room; key = h .key; held = omega (arith, h .held, p .held) }

@@ -118,7 +118,8 @@ parted-fits p bs u ok h f =
     each : (y : Part) → List·Memᴰ y (setPart p bs (u .parts)) → PartFits y
     each y m = elim (part-was p bs (u .parts) y m) [ inl e ↦ rw e ok | inr m′ ↦ f .each-fits y m′ ]
 
-pub ups-parted : {next : ℕ} (u p : ℕ) (bs : List ℕ) (us : List Upload) → 1 ≤ p → p ≤ 10000 → length bs ≤ 5242880 → T (bytes bs) → Ups next us → Ups next (change (isUpload u) (withPart p bs) us)
+pub ups-parted : {next : ℕ} (u p : ℕ) (bs : List ℕ) (us : List Upload) → 1 ≤ p → p ≤ 10000 → length bs ≤ 5242880 → T (bytes bs) → Ups next us →
+    Ups next (change (isUpload u) (withPart p bs) us)
 ups-parted {next} u p bs us a b l ok h =
     record {
       few = omega (arith, h .few, change-length (isUpload u) (withPart p bs) us);
