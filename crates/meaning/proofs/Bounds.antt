@@ -140,33 +140,38 @@ written s n r k p ok (by-complete u x y e some d) =
       uploads-ok = ups-later (omega arith) (ups-others u (r .uploads) (ok .uploads-ok));
     }
 
-pub record RoomStep (s : State) (r : Room) (next : ℕ) (q : Room) : Type 0 where
+-- the room that a call leaves, and the next number: no less, and at most one more
+pub record RoomStep (s : State) (next : ℕ) (q : Room) : Type 0 where
   pub no-less : s .next ≤ next
   pub one-more : next ≤ s .next + 1
   pub ok : RoomOk (s .now) next q
 
+counting : {s : State} {q : Room} → RoomOk (s .now) (s .next + 1) q → RoomStep s (s .next + 1) q
+counting ok = record { no-less = omega arith; one-more = omega arith; ok = ok }
+
+uncounting : {s : State} {q : Room} → RoomOk (s .now) (s .next) q → RoomStep s (s .next) q
+uncounting ok = record { no-less = omega arith; one-more = omega arith; ok = ok }
+
 sets-ok : (s : State) (n : Name) (r : Room) (k : Name) {c : Call} {reply : Reply} {next : ℕ} {us : List Upload} {vs : List Version} → 1 ≤ s .next →
-    RoomOk (s .now) (s .next) r → Sets s n r k c reply next us vs → RoomStep s r next (withUploads us (withObjects (setObject k vs (r .objects)) r))
+    RoomOk (s .now) (s .next) r → Sets s n r k c reply next us vs → RoomStep s next (withUploads us (withObjects (setObject k vs (r .objects)) r))
 sets-ok s n r k {us = us} p ok (new b w l) =
     let h = written s n r k p ok w in
-    record { no-less = omega arith; one-more = omega arith; ok = set-ok r k _ us (omega arith) ok (heap-on-top (r .keeps) (fresh s b) (at' k r) (h .body-fits) refl refl l (heap-at r ok k)) (λ _ _ _. h .key-fits) (h .uploads-ok) }
-sets-ok s n r k p ok (gone a b) = record { no-less = omega arith; one-more = omega arith; ok = set-ok r k [] (r .uploads) (omega arith) ok (heap-none _ _ _) (λ v ws e. absurd (let z : _≡_ {A = ℕ} 0 1 = cc in omega arith)) (ok .uploads-ok) }
+    let heap = heap-on-top (r .keeps) (fresh s b) (at' k r) (h .body-fits) refl refl l (heap-at r ok k) in
+    counting {s = s} (set-ok r k _ us (omega arith) ok heap (λ _ _ _. h .key-fits) (h .uploads-ok))
+sets-ok s n r k p ok (gone a b) = uncounting {s = s} (set-ok r k [] (r .uploads) (omega arith) ok (heap-none _ _ _) (λ v ws e. absurd (let z : _≡_ {A = ℕ} 0 1 = cc in omega arith)) (ok .uploads-ok))
 sets-ok s n r k p ok (fewer num v z e f) =
-    record { no-less = omega arith; one-more = omega arith; ok = set-ok r k _ (r .uploads) (omega arith) ok (heap-keep _ (at' k r) (heap-at r ok k)) (λ _ _ _. key-at r ok k v (found (isNum num) (at' k r) v [] e .there)) (ok .uploads-ok) }
+    let key = key-at r ok k v (found (isNum num) (at' k r) v [] e .there) in
+    uncounting {s = s} (set-ok r k _ (r .uploads) (omega arith) ok (heap-keep _ (at' k r) (heap-at r ok k)) (λ _ _ _. key) (ok .uploads-ok))
 sets-ok s n r k p ok (longer num until v t e f) =
-    record { no-less = omega arith; one-more = omega arith; ok = set-ok r k _ (r .uploads) (omega arith) ok (heap-longer num until v (at' k r) t e f (heap-at r ok k)) (λ _ _ _. key-at r ok k v (found (isNum num) (at' k r) v [] e .there)) (ok .uploads-ok) }
+    let key = key-at r ok k v (found (isNum num) (at' k r) v [] e .there) in
+    uncounting {s = s} (set-ok r k _ (r .uploads) (omega arith) ok (heap-longer num until v (at' k r) t e f (heap-at r ok k)) (λ _ _ _. key) (ok .uploads-ok))
 
-within-ok : (s : State) (n : Name) (r : Room) {c : Call} {reply : Reply} {next : ℕ} {q : Room} → 1 ≤ s .next → RoomOk (s .now) (s .next) r → Within s n r c reply next q → RoomStep s r next q
+within-ok : (s : State) (n : Name) (r : Room) {c : Call} {reply : Reply} {next : ℕ} {q : Room} → 1 ≤ s .next → RoomOk (s .now) (s .next) r → Within s n r c reply next q → RoomStep s next q
 within-ok s n r p ok (sets k h) = sets-ok s n r k p ok h
-within-ok s n r p ok (begun k name l) = record { no-less = omega arith; one-more = omega arith; ok = uploads-ok-with r _ (omega arith) ok (ups-begun k (r .uploads) p name l (ok .uploads-ok)) }
-within-ok s n r p ok (parted u i bs a b l bytes) = record { no-less = omega arith; one-more = omega arith; ok = uploads-ok-with r _ (omega arith) ok (ups-parted u i bs (r .uploads) a b l bytes (ok .uploads-ok)) }
-within-ok s n r p ok (aborted u) = record { no-less = omega arith; one-more = omega arith; ok = uploads-ok-with r _ (omega arith) ok (ups-others u (r .uploads) (ok .uploads-ok)) }
-within-ok s n r p ok (ruled rs few fit) =
-    record {
-      no-less = omega arith;
-      one-more = omega arith;
-      ok = record { name-fits = ok .name-fits; few-rules = few; rules-fit = fit; uploads-ok = ok .uploads-ok; keys-rise = ok .keys-rise; objects-ok = ok .objects-ok };
-    }
+within-ok s n r p ok (begun k name l) = counting {s = s} (uploads-ok-with r _ (omega arith) ok (ups-begun k (r .uploads) p name l (ok .uploads-ok)))
+within-ok s n r p ok (parted u i bs a b l bytes) = uncounting {s = s} (uploads-ok-with r _ (omega arith) ok (ups-parted u i bs (r .uploads) a b l bytes (ok .uploads-ok)))
+within-ok s n r p ok (aborted u) = uncounting {s = s} (uploads-ok-with r _ (omega arith) ok (ups-others u (r .uploads) (ok .uploads-ok)))
+within-ok s n r p ok (ruled rs few fit) = uncounting {s = s} (record { name-fits = ok .name-fits; few-rules = few; rules-fit = fit; uploads-ok = ok .uploads-ok; keys-rise = ok .keys-rise; objects-ok = ok .objects-ok })
 
 aged-ok : {now now′ next : ℕ} (r : Room) → now ≤ now′ → 1 ≤ next → RoomOk now next r → RoomOk now′ next (agedRoom now′ r)
 aged-ok {now} {now′} {next} r p one ok =
@@ -274,7 +279,7 @@ told-house s t p h =
     }
 
 within-house : (s : State) (n : Name) (r q : Room) (next : ℕ) → find (isRoom n) (s .rooms) ≡ r ∷ [] → s .next < 4611686018427387904 → House s → q .name ≡ r .name →
-    RoomStep s r next q → House (record { now = s .now; next = next; rooms = change (isRoom n) (λ _. q) (s .rooms) })
+    RoomStep s next q → House (record { now = s .now; next = next; rooms = change (isRoom n) (λ _. q) (s .rooms) })
 within-house s n r q next e left h named w =
     record {
       few-rooms = omega (arith, change-length (isRoom n) (λ _. q) (s .rooms), h .few-rooms);

@@ -150,12 +150,16 @@ old-was now l at (v ∷ vs) w m = go (due now l at && not (isHeld now v)) refl (
 pub old-pairs : (R : Version → Version → Type 0) (now l at : ℕ) (vs : List Version) → Pairs R vs → Pairs R (oldKept now l at vs)
 unfolding oldKept
 old-pairs R now l at [] p = tt
-old-pairs R now l at (v ∷ vs) p = cond-both (due now l at && not (isHeld now v)) (oldKept now l (v .at) vs) (v ∷ oldKept now l (v .at) vs) (Pairs R) (λ _. old-pairs R now l (v .at) vs (p .1)) (λ _. (λ w m. p .0 w (old-was now l (v .at) vs w m), old-pairs R now l (v .at) vs (p .1)))
+old-pairs R now l at (v ∷ vs) p =
+    let below = old-pairs R now l (v .at) vs (p .1) in
+    cond-both (due now l at && not (isHeld now v)) (oldKept now l (v .at) vs) (v ∷ oldKept now l (v .at) vs) (Pairs R) (λ _. below) (λ _. (λ w m. p .0 w (old-was now l (v .at) vs w m), below))
 
 pub old-length : (now l at : ℕ) (vs : List Version) → length (oldKept now l at vs) ≤ length vs
 unfolding oldKept
 old-length now l at [] = omega arith
-old-length now l at (v ∷ vs) = cond-both (due now l at && not (isHeld now v)) (oldKept now l (v .at) vs) (v ∷ oldKept now l (v .at) vs) (λ ws. length ws ≤ suc (length vs)) (λ _. omega (arith, old-length now l (v .at) vs)) (λ _. omega (arith, old-length now l (v .at) vs))
+old-length now l at (v ∷ vs) =
+    let below = old-length now l (v .at) vs in
+    cond-both (due now l at && not (isHeld now v)) (oldKept now l (v .at) vs) (v ∷ oldKept now l (v .at) vs) (λ ws. length ws ≤ suc (length vs)) (λ _. omega arith) (λ _. omega arith)
 
 pub tidy-cases : (vs : List Version) → (tidy vs ≡ []) ⊎ (tidy vs ≡ vs)
 unfolding tidy
@@ -232,7 +236,9 @@ heap-aged {now} {next} keeps (x ∷ xs) (v ∷ vs) p h =
 
     takes : (k : Bool) → Heap now next k (v ∷ vs) → isRemoved (v .body) ≡ false → Heap now next k (cond k (mark now ∷ v ∷ old) (covered now old))
     takes true h e = heap-marked (v ∷ old) p (omega (arith, below-mark v vs e h, old-length now (x .oldLasts) (v .at) vs)) (λ w m d. absurd (true≢false d)) (heap-older (x .oldLasts) v vs h)
-    takes false h e = let l : length old ≤ 1024 = omega (arith, h .few, old-length now (x .oldLasts) (v .at) vs) in hides old l (λ w m. h .stacked .0 w (old-was now (x .oldLasts) (v .at) vs w m) .was-held refl) (heap-tail v old l (heap-older (x .oldLasts) v vs h))
+    takes false h e =
+        let l : length old ≤ 1024 = omega (arith, h .few, old-length now (x .oldLasts) (v .at) vs) in
+        hides old l (λ w m. h .stacked .0 w (old-was now (x .oldLasts) (v .at) vs w m) .was-held refl) (heap-tail v old l (heap-older (x .oldLasts) v vs h))
 
 -- what rules leave was there, or is their mark
 pub aged-was-or-mark : (now : ℕ) (keeps : Bool) (xs : List Rule) (vs : List Version) (w : Version) → List·Memᴰ w (aged now keeps xs vs) → List·Memᴰ w vs ⊎ (w .num ≡ 0)

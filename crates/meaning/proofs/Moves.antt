@@ -106,7 +106,10 @@ module _ (s : State) (n : Name) (r q : Room) (e : find (isRoom n) (s .rooms) ≡
   replaced-here k = versions-found n k (replaced s next n q) q (find-changed (isRoom n) q (s .rooms) r e is-there)
 
   replaced-elsewhere : (m k : Name) → (m ≡ n → ⊥) → versionsIn m k (replaced s next n q) ≡ versionsIn m k s
-  replaced-elsewhere m k d = versions-same m k s (replaced s next n q) (find-unchanged (isRoom n) (isRoom m) q (λ z i. same-unlike m (z .name) (λ x. d (x ∙ sym (same-eq n (z .name) i)))) (same-unlike m (q .name) (λ x. d (x ∙ sym (same-eq n (q .name) is-there)))) (s .rooms))
+  replaced-elsewhere m k d = versions-same m k s (replaced s next n q) (find-unchanged (isRoom n) (isRoom m) q other (other q is-there) (s .rooms))
+    where
+      other : (z : Room) → isRoom n z ≡ true → isRoom m z ≡ false
+      other z i = same-unlike m (z .name) (λ x. d (x ∙ sym (same-eq n (z .name) i)))
 
   -- where the objects stay, nothing moves
   pub replaced-same : q .objects ≡ r .objects → (m k : Name) → versionsIn m k (replaced s next n q) ≡ versionsIn m k s

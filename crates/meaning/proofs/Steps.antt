@@ -11,7 +11,7 @@ use lib.ListN.{length}
 use Rattle.std.proofs.shelf.Tests.{cond-both, or-parts, and-parts, and-cases, both-ways, not-true, not-false, ltb-true, ltb-false, leb-false, eqb-true, eqb-false, false≢true}
 use Rattle.meaning.specs.Lists.{Name, some, every, keep, find, change, none}
 use Rattle.meaning.specs.Rooms.{Body, Bytes, Removed, Version, Upload, Rule, Room, State, Expect, Call, MakeRoom, DropRoom, Put, Get, Remove, Look, Versions, Begin, PutPart, Complete, Abort, Hold, SetRules, Tick, Shown, Reply, No, Yes, Num, Got, List', Out}
-use Rattle.meaning.specs.Does.{no, isRoom, withRooms, withObjects, withUploads, at', setObject, isRemoved, current, isHeld, onTop, bytes, nameOk, inRoomOr, puts, isNum, chosen, gets, removesOne, removesLatest, isUpload, setPart, gapless, joined, partsPut, completes, unless-no, aborts, higher, holds, later, ticked, small, ruleOk, acts, isTick, does, meets}
+use Rattle.meaning.specs.Does.{no, isRoom, withRooms, numbered, withObjects, withUploads, at', setObject, isRemoved, current, isHeld, onTop, bytes, nameOk, inRoomOr, puts, isNum, chosen, gets, removesOne, removesLatest, isUpload, setPart, gapless, joined, partsPut, completes, unless-no, aborts, higher, holds, later, ticked, small, ruleOk, acts, isTick, does, meets}
 use Rattle.meaning.proofs.Names.{so}
 use Rattle.meaning.proofs.Finds.{found, at-find, change-as, change-again}
 
@@ -105,7 +105,7 @@ changes s n r f e h w = rw (change-as (isRoom n) f (s .rooms) r e) (within n r (
 
 -- a put in a room: refused, or a new version on top
 put-in : (n k : Name) (bs : List ℕ) (x : Expect) (r : Room) (s : State) (P : Out → Type 0) → ((j : ℕ) → P (no j s)) →
-    (length (at' k r) < 1024 → P (record { reply = Num (s .next); state = record { now = s .now; next = s .next + 1; rooms = change (isRoom n) (withObjects (setObject k (onTop (s .now) (r .keeps) (fresh s (Bytes bs)) (at' k r)) (r .objects))) (s .rooms) } })) →
+    (length (at' k r) < 1024 → P (record { reply = Num (s .next); state = numbered (change (isRoom n) (withObjects (setObject k (onTop (s .now) (r .keeps) (fresh s (Bytes bs)) (at' k r)) (r .objects))) (s .rooms)) s })) →
     P (puts n k bs x r s)
 put-in n k bs x r s P refuse write =
     cond-both (not (meets x (at' k r))) (no 4 s) _ P (λ _. refuse 4) (λ _. cond-both (leb 1024 (length (at' k r))) (no 8 s) _ P (λ _. refuse 8) (λ e. write (leb-false 1024 (length (at' k r)) e)))
