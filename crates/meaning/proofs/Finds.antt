@@ -50,16 +50,6 @@ module _ {A : Type 0} (f : A → Bool) where
   pub found-or-none : (xs : List A) → FoundOrNone f xs
   found-or-none xs = at-find (λ ys. (ys ≡ []) ⊎ ((x : A) × (ys ≡ x ∷ []))) xs (λ _. inl refl) (λ x _. inr (x, refl))
 
-  pub find-none : (xs : List A) → find f xs ≡ [] → (x : A) → List·Memᴰ x xs → f x ≡ false
-  unfolding find
-  find-none [] e x m = absurd (List·Memᴰ·not-nil m)
-  find-none (y ∷ xs) e x m = go (f y) refl (find-none xs) (List·Memᴰ·cases-cons m)
-    where
-      go : (b : Bool) → f y ≡ b → (find f xs ≡ [] → (z : A) → List·Memᴰ z xs → f z ≡ false) → (x ≡ y) ⊎ List·Memᴰ x xs → f x ≡ false
-      go true p below m = absurd (let h : y ∷ [] ≡ [] = rw p at e in let z : _≡_ {A = ℕ} 0 1 = cc in omega arith)
-      go false p below (inl q) = rw q p
-      go false p below (inr m) = below (rw p at e) x m
-
   pub not-some : (xs : List A) → some f xs ≡ false → (x : A) → List·Memᴰ x xs → f x ≡ false
   unfolding some
   not-some [] e x m = absurd (List·Memᴰ·not-nil m)

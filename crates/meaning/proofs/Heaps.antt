@@ -14,7 +14,7 @@ use Rattle.meaning.specs.Rooms.{Body, Bytes, Removed, Version, Rule}
 use Rattle.meaning.specs.Does.{isHeld, isRemoved, onTop, isNum, higher, due, oldKept, tidy, covered, aged, small}
 use Rattle.meaning.specs.Laws.{VersionFits}
 use Rattle.meaning.proofs.Good.{Pairs, Over}
-use Rattle.meaning.proofs.Finds.{Changed, Found, found, kept-was, keep-pairs, keep-length, change-as, changed-was, change-pairs, change-length}
+use Rattle.meaning.proofs.Finds.{Changed, Found, found, kept-was, keep-pairs, keep-length, change-as, changed-was, change-pairs, change-length, pairs-of}
 use Rattle.meaning.proofs.Steps.{holdTo}
 
 pub record Heap (now next : ℕ) (keeps : Bool) (vs : List Version) : Type 0 where
@@ -22,6 +22,15 @@ pub record Heap (now next : ℕ) (keeps : Bool) (vs : List Version) : Type 0 whe
   pub rules-mark : length vs ≡ 1025 → (v : Version) (ws : List Version) → vs ≡ v ∷ ws → v .num ≡ 0
   pub each-fits : (v : Version) → List·Memᴰ v vs → VersionFits now next v
   pub stacked : Pairs (Over keeps) vs
+
+-- in one list a number is one version
+pub one-version : {now next : ℕ} {keeps : Bool} (vs : List Version) → Heap now next keeps vs → (v w : Version) → List·Memᴰ v vs → List·Memᴰ w vs → 1 ≤ v .num → v .num ≡ w .num → v ≡ w
+one-version {keeps} vs h v w i j one e = go (pairs-of (Over keeps) vs (h .stacked) v w i j)
+  where
+    go : (v ≡ w) ⊎ (Over keeps v w ⊎ Over keeps w v) → v ≡ w
+    go (inl d) = d
+    go (inr (inl o)) = absurd (omega (arith, o .higher one))
+    go (inr (inr o)) = absurd (omega (arith, o .higher (omega arith)))
 
 pub heap-none : (now next : ℕ) (keeps : Bool) → Heap now next keeps []
 heap-none now next keeps = record { few = omega arith; rules-mark = λ e. absurd (omega arith); each-fits = λ v m. absurd (List·Memᴰ·not-nil m); stacked = tt }

@@ -18,10 +18,6 @@ pub is-so : (b : Bool) → T b → b ≡ true
 is-so true t = refl
 is-so false t = absurd t
 
-pub not-so : (b : Bool) → T (not b) → b ≡ false
-not-so true t = absurd t
-not-so false t = refl
-
 -- what a true test of heads and tails says
 less-cases : (x y : ℕ) (xs ys : Name) → less (x ∷ xs) (y ∷ ys) ≡ true → (x < y) ⊎ ((x ≡ y) × (less xs ys ≡ true))
 unfolding less

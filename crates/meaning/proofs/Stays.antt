@@ -12,11 +12,11 @@ use Rattle.meaning.specs.Lists.{Name, keep, find, change, begins}
 use Rattle.meaning.specs.Rooms.{Body, Bytes, Removed, Version, Upload, Rule, Room, State, blank, Call, Remove, Hold, Tick, Reply, Out}
 use Rattle.meaning.specs.Does.{does, isRoom, isNum, isHeld, isRemoved, isUpload, at', onTop, due, ruleFor, oldKept, tidy, covered, aged, later}
 use Rattle.meaning.specs.Laws.{Run, still, onward, fell, VersionFits, versionsIn, StillIn, OnTopOf, here, below, DueBy, as-latest, as-older, MayGo, by-number, by-rule, by-newer, by-removing, by-upload, Stays, HeldStays}
-use Rattle.meaning.proofs.Good.{Over, Good}
+use Rattle.meaning.proofs.Good.{Good}
 use Rattle.meaning.proofs.Names.{so, is-so}
-use Rattle.meaning.proofs.Finds.{FoundOrNone, Found, found, found-or-none, kept-is, changed-is, pairs-of, not-some}
+use Rattle.meaning.proofs.Finds.{FoundOrNone, Found, found, found-or-none, kept-is, changed-is, not-some}
 use Rattle.meaning.proofs.Steps.{fresh, holdTo, Writes, by-put, by-remove, by-complete, Sets, new, gone, fewer, longer, Step, stands, made, dropped, told, within, steps}
-use Rattle.meaning.proofs.Heaps.{Heap, mark, higher-left}
+use Rattle.meaning.proofs.Heaps.{Heap, one-version, mark, higher-left}
 use Rattle.meaning.proofs.Moves.{Moves, stay, set, ages, moves, versions-found}
 use Rattle.meaning.proofs.Bounds.{heap-in, good, good-run, later-now}
 
@@ -113,15 +113,6 @@ aged-stays now keeps x (v ∷ vs) w bytes m = at-place (List·Memᴰ·cases-cons
     at-place (inr m) = elim (old-stays now (x .oldLasts) v vs w m) [ inl k ↦ stays (older goes keeps k) | inr g ↦ inr (as-older (g .0) (g .1) (g .2), g .3) ]
 
 -- ONE CALL
-
--- in one list a number is one version
-one-version : {now next : ℕ} {keeps : Bool} (vs : List Version) → Heap now next keeps vs → (v w : Version) → List·Memᴰ v vs → List·Memᴰ w vs → 1 ≤ v .num → v .num ≡ w .num → v ≡ w
-one-version {keeps} vs h v w i j one e = go (pairs-of (Over keeps) vs (h .stacked) v w i j)
-  where
-    go : (v ≡ w) ⊎ (Over keeps v w ⊎ Over keeps w v) → v ≡ w
-    go (inl d) = d
-    go (inr (inl o)) = absurd (omega (arith, o .higher one))
-    go (inr (inr o)) = absurd (omega (arith, o .higher (omega arith)))
 
 -- the new time, at which what goes isn't held
 abbrev Fate : State → Name → Name → Version → Call → ℕ → List Version → Type 0

@@ -2,16 +2,17 @@
 -- Assumes nothing.
 use mathlib.Core.Path.{_≡_, refl, sym, _∙_}
 use mathlib.Core.List.{List, [], List·Memᴰ, List·Memᴰ·not-nil}
-use mathlib.Core.Logic.{_⊎_, inl, inr}
+use mathlib.Core.Logic.{inl, inr}
 use Prim.Native.Nat.{ℕ, _<_, _≤_, _+_}
 use native.Mathlib.Omega.{arith}
 use Rattle.meaning.specs.Lists.{Name}
 use Rattle.meaning.specs.Rooms.{Version, Upload, Room, State, Call, Reply, Yes, Num, Out}
 use Rattle.meaning.specs.Does.{does, isRoom}
-use Rattle.meaning.specs.Laws.{Run, still, onward, fell, versionsIn, uploadsIn, keepsOf, Same, NumbersTell, NumbersRise}
-use Rattle.meaning.proofs.Good.{Over, Good}
-use Rattle.meaning.proofs.Finds.{FoundOrNone, found, found-or-none, pairs-of}
+use Rattle.meaning.specs.Laws.{Run, still, onward, fell, versionsIn, uploadsIn, Same, NumbersTell, NumbersRise}
+use Rattle.meaning.proofs.Good.{Good}
+use Rattle.meaning.proofs.Finds.{FoundOrNone, found, found-or-none}
 use Rattle.meaning.proofs.Steps.{Silent, Sets, new, gone, fewer, longer, Within, sets, begun, parted, aborted, ruled, Step, stands, made, dropped, told, within, steps}
+use Rattle.meaning.proofs.Heaps.{one-version}
 use Rattle.meaning.proofs.Moves.{Spot, Origin, was, came, marks, origin, moves}
 use Rattle.meaning.proofs.Bounds.{house, heap-in, good, good-run}
 
@@ -77,12 +78,10 @@ next-grows (fell run) = next-grows run
 
 -- in one state a number is at one place, and there at one version
 tells-now : (s : State) → Good s → (n m k l : Name) (v w : Version) → List·Memᴰ v (versionsIn n k s) → List·Memᴰ w (versionsIn m l s) → 1 ≤ v .num → v .num ≡ w .num → Same n m k l v w
-tells-now s g n m k l v w i j one e = let (a, b) = g .once n m k l v w i j one e in at-place a b (pairs-of (Over (keepsOf n s)) (versionsIn n k s) (heap-in s g n k .stacked) v w i (rw (a, b) j))
-  where
-    at-place : n ≡ m → k ≡ l → (v ≡ w) ⊎ (Over (keepsOf n s) v w ⊎ Over (keepsOf n s) w v) → Same n m k l v w
-    at-place a b (inl d) = record { body = rw d refl; at = rw d refl; room = a; key = b; held = rw d (omega arith) }
-    at-place a b (inr (inl o)) = absurd (omega (arith, o .higher one))
-    at-place a b (inr (inr o)) = absurd (omega (arith, o .higher (omega arith)))
+tells-now s g n m k l v w i j one e =
+    let (a, b) = g .once n m k l v w i j one e in
+    let d : v ≡ w = one-version (versionsIn n k s) (heap-in s g n k) v w i (rw (a, b) j) one e in
+    record { body = rw d refl; at = rw d refl; room = a; key = b; held = rw d (omega arith) }
 
 -- a version with a number that there was came from one with it, so it still says the same
 tells-later : {s t : State} → Good s → Run s t → (n m k l : Name) (v w : Version) → List·Memᴰ v (versionsIn n k s) → List·Memᴰ w (versionsIn m l t) → 1 ≤ v .num →
