@@ -8,15 +8,16 @@ use lib.ListN.{length}
 use Rattle.meaning.specs.Rooms.{Version, Object, Part, Upload, Room, State}
 use Rattle.meaning.specs.Does.{bytesOf}
 
+-- the second less the first, and nothing where that is more
+unfoldable pub lessBy : ℕ → ℕ → ℕ
+lessBy zero m = m
+lessBy (suc k) zero = 0
+lessBy (suc k) (suc m) = lessBy k m
+
 -- what there is weighs: whole blocks of 16,384, and 1,024, for each version and part; and names
 unfoldable pub blocks : ℕ → ℕ → ℕ
 blocks zero n = 0
 blocks (suc fuel) n = cond (eqb n 0) 0 (1 + blocks fuel (lessBy 16384 n))
-  where
-    lessBy : ℕ → ℕ → ℕ
-    lessBy zero m = m
-    lessBy (suc k) zero = 0
-    lessBy (suc k) (suc m) = lessBy k m
 
 abbrev pub bodyWeight : List ℕ → ℕ
 bodyWeight bs = 1024 + 16384 * blocks (length bs) (length bs)

@@ -1,0 +1,17 @@
+pub mod Refusals
+pub mod Listed
+pub mod Ruled
+pub mod Weighs
+pub mod Grown
+pub mod Names
+pub mod Good
+pub mod Finds
+pub mod Objects
+pub mod Steps
+pub mod Heaps
+pub mod Uploads
+pub mod Moves
+pub mod Began
+pub mod Bounds
+pub mod Tells
+pub mod Stays
