@@ -1,5 +1,6 @@
 pub mod Fields
 pub mod Calls
+pub mod Fits
 pub mod Means
 pub mod Order
 pub mod Turns
