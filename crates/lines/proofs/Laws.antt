@@ -14,8 +14,9 @@ use Rattle.std.proofs.shelf.Ways.{tells, leb-tells, eqb-tells}
 use Rattle.std.specs.declared.option.Option.{Option}
 use Rattle.std.specs.declared.option.Option.the-variants.{Some, None}
 use Rattle.lines.specs.Fields.{Took, _then_, number, value, numberIn, bytesIn, counted, countedIn}
-use Rattle.lines.specs.Calls.{atEnd, many, manyIn}
-use Rattle.lines.specs.Fits.{Bytes, NumberFits, CountedFits, Each}
+use Rattle.meaning.specs.Rooms.{Rule, Expect, Any, Absent, Is}
+use Rattle.lines.specs.Calls.{atEnd, name, many, manyIn, areMany, allIn, whole, listed, flag, flagOf, flagIn, expected, expectedOf, expectedIn, rule, ruleIn}
+use Rattle.lines.specs.Fits.{Bytes, NumberFits, CountedFits, FlagFits, ExpectFits, RuleFits, Each}
 
 -- A FIELD
 
@@ -127,3 +128,146 @@ counted-back k l bs rest b e =
 
 pub counted-laws : (k : ℕ) → Laws (counted k) (countedIn k) (CountedFits k)
 counted-laws k = record { forth = counted-forth k; back = counted-back k }
+
+-- SEVERAL FIELDS
+
+-- whatever is read off l, with w l read in all, is as said
+pub record Back {C : Type 0} (Says : C → List ℕ → Type 0) (w : List ℕ → List ℕ) (p : List ℕ → Option C) : Type 0 where
+  pub says : (l : List ℕ) (c : C) → Bytes l → p l ≡ Some c → Says c (w l)
+
+pub then-back : {A C : Type 0} {write : A → List ℕ} {read : List ℕ → Option (Took A)} {Ok : A → Type 0} {Says : C → List ℕ → Type 0} → Laws write read Ok → (w : List ℕ → List ℕ) (f : A → List ℕ → Option C) →
+    ((a : A) → Ok a → Back Says (λ l. w (write a ++ l)) (f a)) → Back Says w (λ l. read l then f)
+then-back {C = C} {read = read} {Says = Says} laws w f go = record { says = says }
+  where
+    says : (l : List ℕ) (c : C) → Bytes l → (read l then f) ≡ Some c → Says c (w l)
+    says l c b e =
+        let t = then-some (read l) f c e in
+        let k = laws .back l (t .0 .value) (t .0 .rest) b (t .1) in
+        subst (λ (x : List ℕ). Says c (w x)) (sym (k .0)) (go (t .0 .value) (k .1) .says (t .0 .rest) c (k .2) (t .2))
+
+pub leaf-back : {C : Type 0} {Says : C → List ℕ → Type 0} (w : List ℕ → List ℕ) (f : List ℕ → C) → ((l : List ℕ) → Bytes l → Says (f l) (w l)) → Back Says w (λ l. Some (f l))
+leaf-back {C} {Says} w f go = record { says = says }
+  where
+    says : (l : List ℕ) (c : C) → Bytes l → Some (f l) ≡ Some c → Says c (w l)
+    says l c b e = let same : f l ≡ c = cc in subst (λ (c : C). Says c (w l)) same (go l b)
+
+at-end : {C : Type 0} (l : List ℕ) (c d : C) → atEnd l c ≡ Some d → (l ≡ []) × (c ≡ d)
+at-end l c d e =
+    let t = go (eqb (length l) 0) e in
+    (nil-from-length l (grind (arith, tells, t .0)), t .1)
+  where
+    go : (b : Bool) → cond b (Some c) None ≡ Some d → (b ≡ true) × (c ≡ d)
+    go true e = (refl, cc)
+    go false e = let z : _≡_ {A = ℕ} 0 1 = cc in absurd (omega arith)
+
+pub end-back : {C : Type 0} {Says : C → List ℕ → Type 0} (w : List ℕ → List ℕ) (c : C) → Says c (w []) → Back Says w (λ l. atEnd l c)
+end-back {C} {Says} w c go = record { says = says }
+  where
+    says : (l : List ℕ) (d : C) → Bytes l → atEnd l c ≡ Some d → Says d (w l)
+    says l d b e =
+        let k = at-end l c d e in
+        subst (λ (c : C). Says c (w l)) (k .1) (subst (λ (x : List ℕ). Says c (w x)) (sym (k .0)) go)
+
+pub none-back : {C : Type 0} {Says : C → List ℕ → Type 0} (w : List ℕ → List ℕ) → Back Says w (λ l. None)
+none-back {C} {Says} w = record { says = says }
+  where
+    says : (l : List ℕ) (c : C) → Bytes l → None ≡ Some c → Says c (w l)
+    says l c b e = let z : _≡_ {A = ℕ} 0 1 = cc in absurd (omega arith)
+
+pub kind-back : {C : Type 0} {Says : C → List ℕ → Type 0} (w : List ℕ → List ℕ) (n i : ℕ) (p q : List ℕ → Option C) → (n ≡ i → Back Says w p) → Back Says w q → Back Says w (λ l. cond (eqb n i) (p l) (q l))
+kind-back {C} {Says} w n i p q hp hq = record { says = λ l c b e. go l c b (eqb n i) (eqb-tells n i) e }
+  where
+    go : (l : List ℕ) (c : C) → Bytes l → (t : Bool) → ((t ≡ true) × (n ≡ i)) ⊎ ((t ≡ false) × (n ≡ i → ⊥)) → cond t (p l) (q l) ≡ Some c → Says c (w l)
+    go l c b true (inl h) e = hp (h .1) .says l c b e
+    go l c b true (inr h) e = let z : true ≡ false = h .0 in let y : _≡_ {A = ℕ} 0 1 = cc in absurd (omega arith)
+    go l c b false s e = hq .says l c b e
+
+-- what is said of one field among others
+abbrev pub Field : {A : Type 0} → (A → List ℕ) → (A → Type 0) → Took A → List ℕ → Type 0
+Field write Ok t l = (l ≡ write (t .value) ++ t .rest) × Ok (t .value) × Bytes (t .rest)
+
+-- A FLAG, WHAT IS EXPECTED, A RULE
+
+pub flag-laws : Laws flag flagIn FlagFits
+flag-laws = record { forth = forth; back = λ l a rest b e. back .says l (took a rest) b e }
+  where
+    forth : (a : Bool) (l : List ℕ) → FlagFits a → flagIn (flag a ++ l) ≡ Some (took a l)
+    forth true l ok = then-forth (number-laws 1) 1 l flagOf (Some (took true l)) (omega arith) refl
+    forth false l ok = then-forth (number-laws 1) 0 l flagOf (Some (took false l)) (omega arith) refl
+    back : Back (Field flag FlagFits) (λ l. l) flagIn
+    back = then-back (number-laws 1) (λ l. l) flagOf (λ n h.
+        kind-back _ n 0 _ _ (λ e. leaf-back _ _ (λ l b. (ap (λ (n : ℕ). number 1 n ++ l) e, tt, b)))
+        (kind-back _ n 1 _ _ (λ e. leaf-back _ _ (λ l b. (ap (λ (n : ℕ). number 1 n ++ l) e, tt, b))) (none-back _)))
+
+pub expected-laws : Laws expected expectedIn ExpectFits
+expected-laws = record { forth = forth; back = λ l a rest b e. back .says l (took a rest) b e }
+  where
+    forth : (a : Expect) (l : List ℕ) → ExpectFits a → expectedIn (expected a ++ l) ≡ Some (took a l)
+    forth Any l ok = then-forth (number-laws 1) 0 l expectedOf (Some (took Any l)) (omega arith) refl
+    forth Absent l ok = then-forth (number-laws 1) 1 l expectedOf (Some (took Absent l)) (omega arith) refl
+    forth (Is n) l ok = then-forth (number-laws 1) 2 (number 8 n ++ l) expectedOf (Some (took (Is n) l)) (omega arith) (then-forth (number-laws 8) n l (λ n l. Some (took (Is n) l)) (Some (took (Is n) l)) ok refl)
+    back : Back (Field expected ExpectFits) (λ l. l) expectedIn
+    back = then-back (number-laws 1) (λ l. l) expectedOf (λ n h.
+        kind-back _ n 0 _ _ (λ e. leaf-back _ _ (λ l b. (ap (λ (n : ℕ). number 1 n ++ l) e, tt, b)))
+        (kind-back _ n 1 _ _ (λ e. leaf-back _ _ (λ l b. (ap (λ (n : ℕ). number 1 n ++ l) e, tt, b)))
+        (kind-back _ n 2 _ _ (λ e. then-back (number-laws 8) _ _ (λ m k. leaf-back _ _ (λ l b. (ap (λ (n : ℕ). number 1 n ++ (number 8 m ++ l)) e, k, b)))) (none-back _))))
+
+pub rule-laws : Laws rule ruleIn RuleFits
+rule-laws = record { forth = forth; back = λ l a rest b e. back .says l (took a rest) b e }
+  where
+    forth : (x : Rule) (l : List ℕ) → RuleFits x → ruleIn (rule x ++ l) ≡ Some (took x l)
+    forth x l ok =
+        ap ruleIn (append-assoc (name (x .prefix)) (number 8 (x .lasts) ++ (number 8 (x .oldLasts) ++ [])) l)
+        ∙ then-forth (counted-laws 1) (x .prefix) (number 8 (x .lasts) ++ (number 8 (x .oldLasts) ++ l)) _ _ (ok .0)
+          (then-forth (number-laws 8) (x .lasts) (number 8 (x .oldLasts) ++ l) _ _ (ok .1)
+          (then-forth (number-laws 8) (x .oldLasts) l _ _ (ok .2) refl))
+    back : Back (Field rule RuleFits) (λ l. l) ruleIn
+    back = then-back (counted-laws 1) (λ l. l) _ (λ n hn. then-back (number-laws 8) _ _ (λ a ha. then-back (number-laws 8) _ _ (λ c hc. leaf-back _ _ (λ l b. (sym (append-assoc (name n) (number 8 a ++ (number 8 c ++ [])) l), (hn, ha, hc), b)))))
+
+-- SEVERAL OF A KIND
+
+many-forth : {A : Type 0} {write : A → List ℕ} {read : List ℕ → Option (Took A)} {Ok : A → Type 0} → Laws write read Ok → (xs : List A) (l : List ℕ) → Each Ok xs → manyIn read (length xs) (many write xs ++ l) ≡ Some (took xs l)
+unfolding many manyIn
+many-forth laws [] l ok = refl
+many-forth {write = write} {read} laws (x ∷ xs) l ok =
+    rw append-assoc (then-forth laws x (many write xs ++ l) _ _ (ok .0) (ap (λ o. o then (λ xs l. Some (took (x ∷ xs) l))) (many-forth laws xs l (ok .1))))
+
+many-back : {A : Type 0} {write : A → List ℕ} {read : List ℕ → Option (Took A)} {Ok : A → Type 0} → Laws write read Ok → (n : ℕ) (l : List ℕ) (xs : List A) (rest : List ℕ) → Bytes l → manyIn read n l ≡ Some (took xs rest) →
+    (l ≡ many write xs ++ rest) × ((length xs ≡ n) × Each Ok xs) × Bytes rest
+unfolding many manyIn
+many-back {A} {write} {Ok = Ok} laws zero l xs rest b e =
+    let s : took [] l ≡ took xs rest = cc in
+    let xs-is : [] ≡ xs = ap (λ (t : Took (List A)). t .value) s in
+    let rest-is : l ≡ rest = ap (λ (t : Took (List A)). t .rest) s in
+    (rest-is ∙ ap (λ (ys : List A). many write ys ++ rest) xs-is, (ap length (sym xs-is), subst (λ (ys : List A). Each Ok ys) xs-is tt), subst (λ (x : List ℕ). Bytes x) rest-is b)
+many-back {A} {write} {read} {Ok} laws (suc n) l xs rest b e =
+    let t = then-some (read l) _ (took xs rest) e in
+    let x = t .0 .value in
+    let u = then-some (manyIn read n (t .0 .rest)) _ (took xs rest) (t .2) in
+    let ys = u .0 .value in
+    let first = laws .back l x (t .0 .rest) b (t .1) in
+    let more = many-back laws n (t .0 .rest) ys (u .0 .rest) (first .2) (u .1) in
+    let s : took (x ∷ ys) (u .0 .rest) ≡ took xs rest = cc (u .2) in
+    let xs-is : x ∷ ys ≡ xs = ap (λ (t : Took (List A)). t .value) s in
+    let rest-is : u .0 .rest ≡ rest = ap (λ (t : Took (List A)). t .rest) s in
+    (first .0 ∙ ap (λ (k : List ℕ). write x ++ k) (more .0) ∙ sym (append-assoc (write x) (many write ys) (u .0 .rest))
+     ∙ ap (λ (k : List ℕ). (write x ++ many write ys) ++ k) rest-is ∙ ap (λ (zs : List A). many write zs ++ rest) xs-is,
+     (ap length (sym xs-is) ∙ ap suc (more .1 .0), subst (λ (zs : List A). Each Ok zs) xs-is (first .1, more .1 .1)),
+     subst (λ (k : List ℕ). Bytes k) rest-is (more .2))
+
+pub many-laws : {A : Type 0} {write : A → List ℕ} {read : List ℕ → Option (Took A)} {Ok : A → Type 0} → Laws write read Ok → (n : ℕ) → Laws (many write) (manyIn read n) (λ xs. (length xs ≡ n) × Each Ok xs)
+many-laws {write = write} {read} laws n = record {
+    forth = λ xs l ok. ap (λ (m : ℕ). manyIn read m (many write xs ++ l)) (sym (ok .0)) ∙ many-forth laws xs l (ok .1);
+    back = many-back laws n }
+
+-- just n of a kind are those that are read, and no other bytes
+pub all-written : {A : Type 0} {write : A → List ℕ} {read : List ℕ → Option (Took A)} {Ok : A → Type 0} → Laws write read Ok → (n : ℕ) (l : List ℕ) → Bytes l → areMany read n l ≡ true →
+    (l ≡ many write (allIn read n l)) × (length (allIn read n l) ≡ n) × Each Ok (allIn read n l)
+all-written {A} {write} {read} {Ok} laws n l b h = go (manyIn read n l) refl h
+  where
+    go : (o : Option (Took (List A))) → manyIn read n l ≡ o → whole o ≡ true → (l ≡ many write (listed o)) × (length (listed o) ≡ n) × Each Ok (listed o)
+    go None e h = let z : _≡_ {A = ℕ} 0 1 = cc in absurd (omega arith)
+    go (Some t) e h =
+        let k = many-back laws n l (t .value) (t .rest) b e in
+        let none : t .rest ≡ [] = nil-from-length (t .rest) (grind (arith, tells, h)) in
+        (k .0 ∙ ap (λ (r : List ℕ). many write (t .value) ++ r) none ∙ append-nil (many write (t .value)), k .1 .0, k .1 .1)
