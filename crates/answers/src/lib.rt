@@ -2,8 +2,9 @@
 ghost use mathlib.Core.Path.{_≡_};
 ghost use lib.ListN.{length};
 ghost use Rattle.std.specs.declared.option.Option.the-variants.{None, Some};
-ghost use Rattle.fills.specs.Fills.{afterOf, countOf};
+ghost use Rattle.fills.specs.Fills.{Wrote};
 ghost use Rattle.lines.specs.Calls.{areMany, lineOf};
+ghost use Rattle.lines.specs.Fits.{Bytes};
 ghost use Rattle.lines.specs.Replies.{answerIn, entryIn, replyBytes};
 ghost use Rattle.answers.specs.Says.{entryRead, fits, said, says};
 use fills::Field;
@@ -44,7 +45,8 @@ pub fn next_entry(entries: &[u8]) -> Option<(Entry<'_>, &[u8])>
 
 // Are these so many entries, and nothing else?
 fn are_entries(count: u16, entries: &[u8]) -> bool
-    ensures { λ r. ⌜ r ≡ areMany entryIn count (now (entries .entry)) ⌝ }
+    ensures are { λ r. ⌜ r ≡ areMany entryIn count (now (entries .entry)) ⌝ }
+    ensures bytes { λ _. ⌜ Bytes (now (entries .entry)) ⌝ }
 {
     let mut left = entries;
     for _ in 0..count {
@@ -59,8 +61,7 @@ fn are_entries(count: u16, entries: &[u8]) -> bool
 // Writes the answer to the front of `out` and says how long its line is, or leaves `out` alone: where there is
 // too little room, or no line can hold it.
 pub fn write_answer(tag: u32, answer: Answer<'_>, out: &mut [u8]) -> Option<usize>
-    ensures count { λ r. ⌜ r ≡ countOf (fits (answer .entry)) (lineOf tag (replyBytes (says (answer .entry)))) (now (out .entry)) ⌝ }
-    ensures after { λ _. ⌜ now (out .exit) ≡ afterOf (fits (answer .entry)) (lineOf tag (replyBytes (says (answer .entry)))) (now (out .entry)) ⌝ }
+    ensures { λ r. ⌜ Wrote (fits (answer .entry)) (lineOf tag (replyBytes (says (answer .entry)))) (now (out .entry)) r (now (out .exit)) ⌝ }
 {
     match answer {
         Answer::No(refusal) => write_line(tag, &[Field::U8(0), Field::U8(refusal.number())], out),

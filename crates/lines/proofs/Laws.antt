@@ -16,6 +16,7 @@ use Rattle.std.specs.declared.option.Option.the-variants.{Some, None}
 use Rattle.lines.specs.Fields.{Took, _then_, number, value, numberIn, bytesIn, counted, countedIn}
 use Rattle.meaning.specs.Rooms.{Rule, Expect, Any, Absent, Is}
 use Rattle.lines.specs.Calls.{atEnd, name, many, manyIn, areMany, allIn, whole, listed, flag, flagOf, flagIn, expected, expectedOf, expectedIn, rule, ruleIn}
+use Rattle.lines.specs.Replies.{entry, entryIn, ShownFits}
 use Rattle.lines.specs.Fits.{Bytes, NumberFits, CountedFits, FlagFits, ExpectFits, RuleFits, Each}
 
 -- A FIELD
@@ -212,17 +213,37 @@ expected-laws = record { forth = forth; back = λ l a rest b e. back .says l (to
         (kind-back _ n 1 _ _ (λ e. leaf-back _ _ (λ l b. (ap (λ (n : ℕ). number 1 n ++ l) e, tt, b)))
         (kind-back _ n 2 _ _ (λ e. then-back (number-laws 8) _ _ (λ m k. leaf-back _ _ (λ l b. (ap (λ (n : ℕ). number 1 n ++ (number 8 m ++ l)) e, k, b)))) (none-back _))))
 
-pub rule-laws : Laws rule ruleIn RuleFits
-rule-laws = record { forth = forth; back = λ l a rest b e. back .says l (took a rest) b e }
+-- a name and two numbers, of which something is made
+three-laws : {A : Type 0} (make : List ℕ → ℕ → ℕ → A) (key : A → List ℕ) (one two : A → ℕ) → ((x : A) → make (key x) (one x) (two x) ≡ x) →
+    ((k : List ℕ) (m n : ℕ) → (key (make k m n) ≡ k) × (one (make k m n) ≡ m) × (two (make k m n) ≡ n)) →
+    Laws (λ x. name (key x) ++ (number 8 (one x) ++ (number 8 (two x) ++ []))) (λ l. countedIn 1 l then (λ k l. numberIn 8 l then (λ m l. numberIn 8 l then (λ n l. Some (took (make k m n) l)))))
+      (λ x. CountedFits 1 (key x) × NumberFits 8 (one x) × NumberFits 8 (two x))
+three-laws {A} make key one two eta beta = record { forth = forth; back = λ l a rest b e. back .says l (took a rest) b e }
   where
-    forth : (x : Rule) (l : List ℕ) → RuleFits x → ruleIn (rule x ++ l) ≡ Some (took x l)
+    write : A → List ℕ
+    write x = name (key x) ++ (number 8 (one x) ++ (number 8 (two x) ++ []))
+    read : List ℕ → Option (Took A)
+    read l = countedIn 1 l then (λ k l. numberIn 8 l then (λ m l. numberIn 8 l then (λ n l. Some (took (make k m n) l))))
+    Ok : A → Type 0
+    Ok x = CountedFits 1 (key x) × NumberFits 8 (one x) × NumberFits 8 (two x)
+    forth : (x : A) (l : List ℕ) → Ok x → read (write x ++ l) ≡ Some (took x l)
     forth x l ok =
-        ap ruleIn (append-assoc (name (x .prefix)) (number 8 (x .lasts) ++ (number 8 (x .oldLasts) ++ [])) l)
-        ∙ then-forth (counted-laws 1) (x .prefix) (number 8 (x .lasts) ++ (number 8 (x .oldLasts) ++ l)) _ _ (ok .0)
-          (then-forth (number-laws 8) (x .lasts) (number 8 (x .oldLasts) ++ l) _ _ (ok .1)
-          (then-forth (number-laws 8) (x .oldLasts) l _ _ (ok .2) refl))
-    back : Back (Field rule RuleFits) (λ l. l) ruleIn
-    back = then-back (counted-laws 1) (λ l. l) _ (λ n hn. then-back (number-laws 8) _ _ (λ a ha. then-back (number-laws 8) _ _ (λ c hc. leaf-back _ _ (λ l b. (sym (append-assoc (name n) (number 8 a ++ (number 8 c ++ [])) l), (hn, ha, hc), b)))))
+        ap read (append-assoc (name (key x)) (number 8 (one x) ++ (number 8 (two x) ++ [])) l)
+        ∙ then-forth (counted-laws 1) (key x) (number 8 (one x) ++ (number 8 (two x) ++ l)) _ _ (ok .0)
+          (then-forth (number-laws 8) (one x) (number 8 (two x) ++ l) _ _ (ok .1)
+          (then-forth (number-laws 8) (two x) l _ _ (ok .2) (ap (λ (y : A). Some (took y l)) (eta x))))
+    made : (k : List ℕ) (m n : ℕ) (l : List ℕ) → CountedFits 1 k → NumberFits 8 m → NumberFits 8 n → Bytes l → Field write Ok (took (make k m n) l) (name k ++ (number 8 m ++ (number 8 n ++ l)))
+    made k m n l hk hm hn b =
+        let e = beta k m n in
+        rw (e .0, e .1, e .2) (sym (append-assoc (name k) (number 8 m ++ (number 8 n ++ [])) l), (hk, hm, hn), b)
+    back : Back (Field write Ok) (λ l. l) read
+    back = then-back (counted-laws 1) (λ l. l) _ (λ k hk. then-back (number-laws 8) _ _ (λ m hm. then-back (number-laws 8) _ _ (λ n hn. leaf-back _ _ (λ l b. made k m n l hk hm hn b))))
+
+pub rule-laws : Laws rule ruleIn RuleFits
+rule-laws = three-laws (λ k m n. record { prefix = k; lasts = m; oldLasts = n }) (λ x. x .prefix) (λ x. x .lasts) (λ x. x .oldLasts) (λ x. refl) (λ k m n. (refl, refl, refl))
+
+pub entry-laws : Laws entry entryIn ShownFits
+entry-laws = three-laws (λ k m n. record { key = k; num = m; size = n }) (λ x. x .key) (λ x. x .num) (λ x. x .size) (λ x. refl) (λ k m n. (refl, refl, refl))
 
 -- SEVERAL OF A KIND
 
