@@ -44,5 +44,8 @@ sound Full = true
 abbrev pub fits : Answer → Bool
 fits a = sound a && ltb (4 + length (replyBytes (says a))) 4294967296
 
+abbrev pub saying : Option Answer → Option meaning.Reply
+saying o = mapped says o
+
 abbrev pub said : Option (ℕ × Answer) → Option Tagged
 said o = mapped (λ p. record { tag = p .0; reply = says (p .1) }) o

@@ -3,13 +3,17 @@ ghost use mathlib.Core.Path.{_≡_};
 ghost use lib.ListN.{length};
 ghost use Rattle.std.specs.declared.option.Option.the-variants.{None, Some};
 ghost use Rattle.fills.specs.Fills.{Wrote};
-ghost use Rattle.lines.specs.Calls.{areMany, lineOf};
+ghost use Rattle.lines.specs.Calls.{areMany, atEnd, lineOf};
 ghost use Rattle.lines.specs.Fits.{Bytes};
-ghost use Rattle.lines.specs.Replies.{answerIn, entryIn, replyBytes};
-ghost use Rattle.answers.specs.Says.{entryRead, fits, said, says};
+ghost use Rattle.lines.specs.Replies.{answerIn, entryIn, gotIn, listIn, noIn, numIn, replyBytes, replyIn};
+ghost use Rattle.answers.specs.Says.{entryRead, fits, said, saying, says};
 use fills::Field;
 use fills::write_line;
+use lines::fields::content_in;
 use lines::fields::name_in;
+use lines::fields::u8_in;
+use lines::fields::u16_in;
+use lines::fields::u32_in;
 use lines::fields::u64_in;
 use lines::order::Refusal;
 
@@ -56,6 +60,74 @@ fn are_entries(count: u16, entries: &[u8]) -> bool
         left = rest;
     }
     left.is_empty()
+}
+
+fn ended<'a>(rest: &[u8], answer: Answer<'a>) -> Option<Answer<'a>>
+    ensures { λ r. ⌜ saying r ≡ atEnd (now (rest .entry)) (says (answer .entry)) ⌝ }
+{
+    if rest.is_empty() { Some(answer) } else { None }
+}
+
+fn no(fields: &[u8]) -> Option<Answer<'_>>
+    ensures { λ r. ⌜ saying r ≡ noIn (now (fields .entry)) ⌝ }
+{
+    let (number, rest) = u8_in(fields)?;
+    let refusal = Refusal::of(number)?;
+    if rest.is_empty() { Some(Answer::No(refusal)) } else { None }
+}
+
+fn got(fields: &[u8]) -> Option<Answer<'_>>
+    ensures { λ r. ⌜ saying r ≡ gotIn (now (fields .entry)) ⌝ }
+{
+    let (number, rest) = u64_in(fields)?;
+    let (length, rest) = u64_in(rest)?;
+    let (bytes, rest) = content_in(rest)?;
+    ended(rest, Answer::Got { number, length, bytes })
+}
+
+fn list(fields: &[u8]) -> Option<Answer<'_>>
+    ensures { λ r. ⌜ saying r ≡ listIn (now (fields .entry)) ⌝ }
+{
+    let (count, entries) = u16_in(fields)?;
+    if !are_entries(count, entries) {
+        return None;
+    }
+    Some(Answer::List { count, entries })
+}
+
+fn number(fields: &[u8]) -> Option<Answer<'_>>
+    ensures { λ r. ⌜ saying r ≡ numIn (now (fields .entry)) ⌝ }
+{
+    let (number, rest) = u64_in(fields)?;
+    if rest.is_empty() { Some(Answer::Number(number)) } else { None }
+}
+
+fn answer_of(kind: u8, fields: &[u8]) -> Option<Answer<'_>>
+    ensures { λ r. ⌜ saying r ≡ replyIn kind (now (fields .entry)) ⌝ }
+{
+    match kind {
+        0 => no(fields),
+        1 if fields.is_empty() => Some(Answer::Yes),
+        2 => number(fields),
+        3 => got(fields),
+        4 => list(fields),
+        5 if fields.is_empty() => Some(Answer::Full),
+        _ => None,
+    }
+}
+
+// The tag and the answer, if the line is one to the last byte.
+pub fn read_answer(line: &[u8]) -> Option<(u32, Answer<'_>)>
+    ensures { λ r. ⌜ said r ≡ answerIn (now (line .entry)) ⌝ }
+{
+    let (length, rest) = u32_in(line)?;
+    if length as usize != rest.len() {
+        return None;
+    }
+    let (tag, rest) = u32_in(rest)?;
+    let (kind, fields) = u8_in(rest)?;
+    let answer = answer_of(kind, fields)?;
+    Some((tag, answer))
 }
 
 // Writes the answer to the front of `out` and says how long its line is, or leaves `out` alone: where there is
