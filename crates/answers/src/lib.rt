@@ -5,7 +5,7 @@ ghost use Rattle.std.specs.declared.option.Option.the-variants.{None, Some};
 ghost use Rattle.fills.specs.Fills.{Wrote};
 ghost use Rattle.lines.specs.Calls.{areMany, atEnd, lineOf};
 ghost use Rattle.lines.specs.Fits.{Bytes};
-ghost use Rattle.lines.specs.Replies.{answerIn, entryIn, gotIn, listIn, noIn, numIn, replyBytes, replyIn};
+ghost use Rattle.lines.specs.Replies.{answerIn, entryIn, gotIn, listIn, noIn, numIn, replyBytes, replyIn, taggedIn};
 ghost use Rattle.answers.specs.Says.{entryRead, fits, said, saying, says};
 use fills::Field;
 use fills::write_line;
@@ -116,6 +116,15 @@ fn answer_of(kind: u8, fields: &[u8]) -> Option<Answer<'_>>
     }
 }
 
+fn tagged_in(bytes: &[u8]) -> Option<(u32, Answer<'_>)>
+    ensures { λ r. ⌜ said r ≡ taggedIn (now (bytes .entry)) ⌝ }
+{
+    let (tag, rest) = u32_in(bytes)?;
+    let (kind, fields) = u8_in(rest)?;
+    let answer = answer_of(kind, fields)?;
+    Some((tag, answer))
+}
+
 // The tag and the answer, if the line is one to the last byte.
 pub fn read_answer(line: &[u8]) -> Option<(u32, Answer<'_>)>
     ensures { λ r. ⌜ said r ≡ answerIn (now (line .entry)) ⌝ }
@@ -124,10 +133,7 @@ pub fn read_answer(line: &[u8]) -> Option<(u32, Answer<'_>)>
     if length as usize != rest.len() {
         return None;
     }
-    let (tag, rest) = u32_in(rest)?;
-    let (kind, fields) = u8_in(rest)?;
-    let answer = answer_of(kind, fields)?;
-    Some((tag, answer))
+    tagged_in(rest)
 }
 
 // Writes the answer to the front of `out` and says how long its line is, or leaves `out` alone: where there is

@@ -61,9 +61,12 @@ abbrev pub tagged : ℕ → Option Reply → Option Tagged
 tagged tag None = None
 tagged tag (Some r) = Some (record { tag = tag; reply = r })
 
+abbrev pub taggedIn : List ℕ → Option Tagged
+taggedIn l = numberIn 4 l then (λ tag l. numberIn 1 l then (λ kind l. tagged tag (replyIn kind l)))
+
 -- the answer and its tag, of a line that is one
 abbrev pub answerIn : List ℕ → Option Tagged
-answerIn l = numberIn 4 l then (λ n l. cond (eqb n (length l)) (numberIn 4 l then (λ tag l. numberIn 1 l then (λ kind l. tagged tag (replyIn kind l)))) None)
+answerIn l = numberIn 4 l then (λ n l. cond (eqb n (length l)) (taggedIn l) None)
 
 -- which answers a line can hold
 abbrev pub ShownFits : Shown → Type 0
