@@ -5,7 +5,7 @@ use mathlib.Core.Path.{_≡_, refl, sym, ap, _∙_}
 use Prim.Native.Nat.{ℕ, _+_, _<_, _≤_}
 use native.Mathlib.Nat.{add-assoc}
 use native.Mathlib.Omega.{arith}
-use lib.Dec.{ltb}
+use lib.Dec.{ltb, leb}
 use lib.ListN.{length, getD, drop, length-append}
 use Rattle.std.proofs.shelf.Lists.{append-nil, drop-more}
 use Rattle.std.proofs.shelf.Ways.{tells}
@@ -15,7 +15,7 @@ use Rattle.meaning.specs.Lists.{every}
 use Rattle.lines.specs.Calls.{many, lineOf}
 use Rattle.fills.specs.declared.Field.{Field}
 use Rattle.fills.specs.declared.Field.the-variants.{U8}
-use Rattle.fills.specs.Fills.{fieldBytes, fieldFits, bodyBytes, sized, countOf, afterOf}
+use Rattle.fills.specs.Fills.{fieldBytes, fieldFits, bodyBytes, sized, Wrote}
 
 pub body-more : (f : Field) (fs : List Field) → bodyBytes (f ∷ fs) ≡ fieldBytes f ++ bodyBytes fs
 unfolding many
@@ -82,8 +82,15 @@ unfolding many
 body-none = refl
 
 -- a line that fits, in a buffer that has room for it
-pub goes : (fits : Bool) (line out : List ℕ) → fits ≡ true → length line ≤ length out → (countOf fits line out ≡ Some (length line)) × (afterOf fits line out ≡ line ++ drop (length line) out)
-goes fits line out e h = (grind (arith, tells), grind (arith, tells))
+pub goes : (fits : Bool) (line out : List ℕ) (n : ℕ) (after : List ℕ) → fits ≡ true → length line ≤ length out → n ≡ length line → after ≡ line ++ drop (length line) out → Wrote fits line out (Some n) after
+goes fits line out n after e h p q =
+    let t : (fits && leb (length line) (length out)) ≡ true = grind (arith, tells) in
+    record { told-is = rw t (ap Some p); after-is = rw t q }
+
+-- a line that doesn't, or for which there is no room
+pub stays : (fits : Bool) (line out : List ℕ) → (fits && leb (length line) (length out)) ≡ false → Wrote fits line out None out
+stays fits line out t = record { told-is = rw t; after-is = rw t }
 
 pub line-long : (tag : ℕ) (body : List ℕ) → length (lineOf tag body) ≡ 8 + length body
+unfolding lineOf
 line-long tag body = omega (arith, ap length (append-nil body))

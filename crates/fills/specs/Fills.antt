@@ -2,6 +2,7 @@
 -- Assumes nothing.
 use mathlib.Core.Bool.{Bool, true, cond, _&&_}
 use mathlib.Core.List.{List, [], _∷_, _++_}
+use mathlib.Core.Path.{_≡_}
 use Prim.Native.Nat.{ℕ, _+_, _^_}
 use denote.Ref.{now}
 use lib.Dec.{ltb, leb}
@@ -48,10 +49,7 @@ lineFits fs = every fieldFits fs && ltb (4 + length (bodyBytes fs)) 4294967296
 unfoldable pub putAt : ℕ → List ℕ → List ℕ → List ℕ
 putAt at bs out = take at out ++ (bs ++ drop (at + length bs) out)
 
--- a line is written if it can be and there is room: how long it is
-abbrev pub countOf : Bool → List ℕ → List ℕ → Option ℕ
-countOf fits line out = cond (fits && leb (length line) (length out)) (Some (length line)) None
-
--- and what the buffer then holds
-abbrev pub afterOf : Bool → List ℕ → List ℕ → List ℕ
-afterOf fits line out = cond (fits && leb (length line) (length out)) (line ++ drop (length line) out) out
+-- where this line can be one and there is room for it, it is written to the front and its length told; else nothing is changed
+pub record Wrote (fits : Bool) (line out : List ℕ) (told : Option ℕ) (after : List ℕ) : Type 0 where
+  pub told-is : told ≡ cond (fits && leb (length line) (length out)) (Some (length line)) None
+  pub after-is : after ≡ cond (fits && leb (length line) (length out)) (line ++ drop (length line) out) out

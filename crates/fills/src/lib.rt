@@ -7,7 +7,7 @@ ghost use Rattle.std.specs.declared.option.Option.the-variants.{None, Some};
 ghost use Rattle.meaning.specs.Lists.{every};
 ghost use Rattle.lines.specs.Calls.{lineOf};
 ghost use Rattle.lines.specs.Fields.{number};
-ghost use Rattle.fills.specs.Fills.{afterOf, bodyBytes, countOf, fieldBytes, fieldFits, lineFits, putAt, sized};
+ghost use Rattle.fills.specs.Fills.{Wrote, bodyBytes, fieldBytes, fieldFits, lineFits, putAt, sized};
 
 #[derive(Clone, Copy)]
 pub enum Field<'a> {
@@ -122,8 +122,7 @@ fn put_fields(out: &mut [u8], start: usize, fields: &[Field<'_>]) -> usize
 
 // Writes a line to the front of `out` and says how long it is, or leaves `out` alone.
 pub fn write_line(tag: u32, fields: &[Field<'_>], out: &mut [u8]) -> Option<usize>
-    ensures count { λ r. ⌜ r ≡ countOf (lineFits (now (fields .entry))) (lineOf tag (bodyBytes (now (fields .entry)))) (now (out .entry)) ⌝ }
-    ensures after { λ _. ⌜ now (out .exit) ≡ afterOf (lineFits (now (fields .entry))) (lineOf tag (bodyBytes (now (fields .entry)))) (now (out .entry)) ⌝ }
+    ensures { λ r. ⌜ Wrote (lineFits (now (fields .entry))) (lineOf tag (bodyBytes (now (fields .entry)))) (now (out .entry)) r (now (out .exit)) ⌝ }
 {
     let total = total(fields)?;
     if out.len() < 4 + total {

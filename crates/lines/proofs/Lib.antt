@@ -1,1 +1,2 @@
 pub mod Many
+pub mod Laws

@@ -102,7 +102,7 @@ callBytes (SetRules n rs) = together (number 1 13 ∷ name n ∷ number 1 (lengt
 callBytes (Tick t) = together (number 1 14 ∷ number 8 t ∷ [])
 
 -- a line with that tag
-abbrev pub lineOf : (tag : ℕ) → List ℕ → List ℕ
+unfoldable pub lineOf : (tag : ℕ) → List ℕ → List ℕ
 lineOf tag body = together (number 4 (4 + length body) ∷ number 4 tag ∷ body ∷ [])
 
 -- WHAT A LINE SAYS

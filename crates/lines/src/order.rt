@@ -1,5 +1,9 @@
 // Which lines are turned away, and in which order.
 ghost use mathlib.Core.Path.{_≡_};
+ghost use mathlib.Core.Bool.{cond};
+ghost use Rattle.std.specs.Options.{mapped};
+ghost use Rattle.std.specs.declared.option.Option.the-variants.{None, Some};
+ghost use Rattle.lines.specs.Replies.{refusal};
 ghost use Rattle.meaning.specs.Does.{core};
 ghost use Rattle.lines.specs.Means.{meant, means};
 ghost use Rattle.lines.specs.Order.{callWithin, heard, kindOf, lacksCall, lacksKind, tagOf, tellsTime};
@@ -42,6 +46,25 @@ impl Refusal {
             Refusal::UsedUp => 8,
             Refusal::NoTime => 10,
             Refusal::NotBuilt => 12,
+        }
+    }
+
+    // The refusal that a number on a line stands for.
+    pub fn of(number: u8) -> Option<Refusal>
+        ensures { λ r. ⌜ mapped numberOf r ≡ cond (refusal number) (Some number) None ⌝ }
+    {
+        match number {
+            1 => Some(Refusal::Wrong),
+            2 => Some(Refusal::Missing),
+            3 => Some(Refusal::Exists),
+            4 => Some(Refusal::Unexpected),
+            5 => Some(Refusal::NotEmpty),
+            6 => Some(Refusal::Held),
+            7 => Some(Refusal::Gap),
+            8 => Some(Refusal::UsedUp),
+            10 => Some(Refusal::NoTime),
+            12 => Some(Refusal::NotBuilt),
+            _ => None,
         }
     }
 }

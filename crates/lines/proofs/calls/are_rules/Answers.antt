@@ -1,21 +1,13 @@
-use mathlib.Core.Path.{_≡_, sym, ap, _∙_}
-use Prim.Native.Nat.{ℕ, _-_, _+_, suc}
-use native.Mathlib.Omega.{arith}
-use Rattle.lines.specs.Calls.{areMany, ruleIn}
-use Rattle.lines.proofs.Many.{are-more, are-none, are-ended}
+use mathlib.Core.Path.{_∙_}
+use Rattle.lines.specs.Calls.{ruleIn}
+use Rattle.lines.proofs.Many.{left-more, left-none, left-ended}
 use Rattle.lines.proofs.calls.are_rules.Needs as need
 
 pub returns-in-rest : need.returns-in-rest
-returns-in-rest c =
-    let e : c .args .count - c .loop .counter ≡ suc (c .args .count - (c .loop .counter + 1)) = omega arith in
-    sym (are-none ruleIn _ (c .loop .left .now) (c .in-rest .ensures tt)) ∙ ap (λ (n : ℕ). areMany ruleIn n (c .loop .left .now)) (sym e) ∙ c .loop .inv
+returns-in-rest c = left-none ruleIn (c .args .count) (c .loop .counter) (c .loop .left .now) (c .loop-test .taken) (c .in-rest .ensures tt) ∙ c .loop .inv
 
 pub loop-again : need.loop-again
-loop-again c =
-    let e : c .args .count - c .loop .counter ≡ suc (c .args .count - (c .loop .counter + 1)) = omega arith in
-    sym (are-more ruleIn _ (c .loop .left .now) _ (c .in-Some .rest .now) (c .in-Some .ensures tt)) ∙ ap (λ (n : ℕ). areMany ruleIn n (c .loop .left .now)) (sym e) ∙ c .loop .inv
+loop-again c = left-more ruleIn (c .args .count) (c .loop .counter) (c .loop .left .now) _ (c .in-Some .rest .now) (c .loop-test .taken) (c .in-Some .ensures tt) ∙ c .loop .inv
 
 pub returns : need.returns
-returns c =
-    let e : c .args .count - c .loop .counter ≡ 0 = omega arith in
-    c .is-empty .ensures ∙ sym (are-ended ruleIn (c .loop .left .now)) ∙ ap (λ (n : ℕ). areMany ruleIn n (c .loop .left .now)) (sym e) ∙ c .loop .inv
+returns c = c .is-empty .ensures ∙ left-ended ruleIn (c .args .count) (c .loop .counter) (c .loop .left .now) (c .loop-test .left) ∙ c .loop .inv

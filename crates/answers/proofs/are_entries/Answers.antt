@@ -1,0 +1,13 @@
+use mathlib.Core.Path.{_∙_}
+use Rattle.lines.specs.Replies.{entryIn}
+use Rattle.lines.proofs.Many.{left-more, left-none, left-ended}
+use Rattle.answers.proofs.are_entries.Needs as need
+
+pub returns-in-rest : need.returns-in-rest
+returns-in-rest c = record { are = left-none entryIn (c .args .count) (c .loop .counter) (c .loop .left .now) (c .loop-test .taken) (c .in-rest .ensures tt) ∙ c .loop .inv; bytes = λ i. c .typed .entries i .fits }
+
+pub loop-again : need.loop-again
+loop-again c = left-more entryIn (c .args .count) (c .loop .counter) (c .loop .left .now) _ (c .in-Some .rest .now) (c .loop-test .taken) (c .in-Some .ensures tt) ∙ c .loop .inv
+
+pub returns : need.returns
+returns c = record { are = c .is-empty .ensures ∙ left-ended entryIn (c .args .count) (c .loop .counter) (c .loop .left .now) (c .loop-test .left) ∙ c .loop .inv; bytes = λ i. c .typed .entries i .fits }
