@@ -19,7 +19,8 @@ use Rattle.lines.specs.declared.order.Refusal.the-variants.{Wrong, Missing, Exi
 use Rattle.lines.specs.Order.{onlyTime, heard, tagOf}
 use Rattle.lines.specs.Calls.{lineOf}
 use Rattle.lines.specs.Turns.{numberOf}
-use Rattle.promise.specs.Promise.{replyBytes, house}
+use Rattle.lines.specs.Replies.{replyBytes}
+use Rattle.promise.specs.Promise.{house}
 use Rattle.clock.specs.declared.Heard.{Heard}
 use Rattle.clock.specs.declared.Heard.the-variants.{Refused, Tells}
 use Rattle.clock.specs.declared.Asked.{Asked}

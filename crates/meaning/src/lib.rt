@@ -6,8 +6,6 @@ ghost use Rattle.meaning.specs.Laws.{NumbersTell, Stays, HeldStays, ListExact,
 pub fn examples_play()
     ensures { λ _. ⌜ ExamplesPlay ⌝ }
 {}
-<<<<<<< HEAD
-=======
 
 // A number tells one content, one time, one room and one key, for good; its hold only grows.
 pub fn numbers_tell()
@@ -63,4 +61,3 @@ pub fn same_time_again()
 pub fn stays_in_bounds()
     ensures { λ _. ⌜ StaysInBounds ⌝ }
 {}
->>>>>>> c59e80724be7703664f093e1419301022664a206

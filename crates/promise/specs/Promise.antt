@@ -1,28 +1,16 @@
 -- THE PROMISE OF THE WHOLE, made of lines of bytes.
 -- Assumes nothing.
 use mathlib.Core.Path.{_≡_}
-use mathlib.Core.List.{List, [], _∷_, _++_}
+use mathlib.Core.List.{List}
 use Prim.Native.Nat.{ℕ, _+_, _*_, _<_}
-use lib.ListN.{length}
 use Rattle.std.specs.declared.result.Result.the-variants.{Ok}
 use Rattle.drives.specs.Machines.{Machine, Judge, atomic, Keeps, Within}
-use Rattle.meaning.specs.Rooms.{State, blank, Call, Reply, No, Yes, Num, Got, List', Full, Shown}
+use Rattle.meaning.specs.Rooms.{State, blank, Call, Reply, Full}
 use Rattle.meaning.specs.Does.{does, down}
 use Rattle.meaning.specs.Weights.{weight}
-use Rattle.lines.specs.Fields.{number}
-use Rattle.lines.specs.Calls.{lineOf, name, content, many, together}
+use Rattle.lines.specs.Calls.{lineOf}
+use Rattle.lines.specs.Replies.{replyBytes}
 use Rattle.lines.specs.Order.{Built, theCore, tagOf, heard, answerTo}
-
-abbrev pub shownBytes : Shown → List ℕ
-shownBytes x = together (name (x .key) ∷ number 8 (x .num) ∷ number 8 (x .size) ∷ [])
-
-abbrev pub replyBytes : Reply → List ℕ
-replyBytes (No k) = together (number 1 0 ∷ number 1 k ∷ [])
-replyBytes Yes = number 1 1
-replyBytes (Num k) = together (number 1 2 ∷ number 8 k ∷ [])
-replyBytes (Got k size bs) = together (number 1 3 ∷ number 8 k ∷ number 8 size ∷ content bs ∷ [])
-replyBytes (List' xs) = together (number 1 4 ∷ number 2 (length xs) ∷ many shownBytes xs ∷ [])
-replyBytes Full = number 1 5
 
 -- the answer to a line bears its tag
 unfoldable pub replyTo : List ℕ → Reply → List ℕ
