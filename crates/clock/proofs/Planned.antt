@@ -11,6 +11,7 @@ use Rattle.steps.specs.Stacks.{Asked as Wants, Plans, Planned}
 use Rattle.register.specs.declared.Call.{Call}
 use Rattle.register.specs.declared.Reply.{Reply}
 use Rattle.meaning.specs.Does.{small, later}
+use Rattle.lines.specs.Order.{tagOf}
 use Rattle.clock.specs.declared.Heard.{Heard}
 use Rattle.clock.specs.declared.Heard.the-variants.{Refused, Tells}
 use Rattle.clock.specs.declared.Told.{Told}
@@ -21,7 +22,7 @@ use Rattle.lines.specs.declared.order.Refusal.the-variants.{Wrong}
 use Rattle.register.specs.declared.Call.the-variants.{Set}
 use Rattle.steps.specs.declared.Next.the-variants as next
 use Rattle.clock.specs.Clock.{Spoken, tellsIf, answersTo, goes, turnIn, clockCode, spoken, clockSame}
-use Rattle.clock.specs.Spelled.{Written, toldBytes, retold, clock, lineCode}
+use Rattle.clock.specs.Spelled.{askedIn, Written, toldBytes, retold, clock, lineCode}
 
 -- what is left at the end: the reply and the time
 abbrev Ends : Clock → Spoken → Type 0
@@ -29,8 +30,8 @@ Ends v x = (clockCode .says v ≡ x .reply) × (v .time ≡ x .mem)
 
 tells : (b : Bool) (tag t time : ℕ) →
     Plans (clockCode .turns) Ends 2
-      (cond b (goes time tag (Setting (later t time)) (next.Call (Set (record { time = later t time })))) (goes time tag (Over (No Wrong)) next.Ready))
-      (tellsIf b tag t time)
+    (cond b (goes time tag (Setting (later t time)) (next.Call (Set (record { time = later t time })))) (goes time tag (Over (No Wrong)) next.Ready))
+    (tellsIf b tag t time)
 tells true tag t time = Plans.calls (λ r. Plans.ends (refl, refl))
 tells false tag t time = Plans.ends (refl, refl)
 
@@ -43,4 +44,21 @@ clock-planned size =
     record {
       rises = Plans.calls (λ r. Plans.ends refl);
       answers = λ c u m s. subst (λ (n : ℕ). Plans (clockCode .turns) Ends 2 (turnIn (Begun (c .heard)) (u .time) (c .tag) None) (answersTo (c .heard) (c .tag) n)) s (answers (c .heard) (c .tag) (u .time));
+    }
+
+abbrev EndsWritten : Clock → Written → Type 0
+EndsWritten v x = (toldBytes (clockCode .says v) ≡ x .reply) × (v .time ≡ x .mem)
+
+written : {n : ℕ} {y : Wants Clock Call} {q : Plan Call Reply Spoken} → Plans (clockCode .turns) Ends n y q → Plans (clockCode .turns) EndsWritten n y (retold q)
+unfolding retold
+written (Plans.ends (e, t)) = Plans.ends (ap toldBytes e, t)
+written (Plans.calls k) = Plans.calls (λ r. written (k r))
+
+pub lines-planned : (longest size : ℕ) → Planned (lineCode longest) 2 size (clock longest) (clockSame size)
+lines-planned longest size =
+    record {
+      rises = clock-planned size .rises;
+      answers = λ l u m s.
+          subst (λ (n : ℕ). Plans (clockCode .turns) EndsWritten 2 (turnIn (Begun (askedIn longest l (u .time) .heard)) (u .time) (tagOf l) None) (clock longest .answers l n)) s
+          (written (answers (askedIn longest l (u .time) .heard) (tagOf l) (u .time)));
     }

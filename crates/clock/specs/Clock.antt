@@ -72,8 +72,8 @@ turnIn Getting time tag r = goes (gotIn r) tag (Over Yes) next.Ready
 turnIn (Begun (Refused why)) time tag r = goes time tag (Over (No why)) next.Ready
 turnIn (Begun (Tells t)) time tag r =
     cond (small t && ltb 0 t)
-      (goes time tag (Setting (later t time)) (next.Call (Set (record { time = later t time }))))
-      (goes time tag (Over (No Wrong)) next.Ready)
+    (goes time tag (Setting (later t time)) (next.Call (Set (record { time = later t time }))))
+    (goes time tag (Over (No Wrong)) next.Ready)
 turnIn (Setting t) time tag r = goes t tag (Over Yes) next.Ready
 turnIn (Over x) time tag r = goes time tag (Over x) next.Ready
 

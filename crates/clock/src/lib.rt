@@ -2,6 +2,7 @@
 ghost use mathlib.Core.Path.{_≡_};
 ghost use Rattle.std.specs.declared.option.Option.the-variants.{None};
 ghost use Rattle.clock.specs.Clock.{clockCode, spoken, clockSame, turnIn};
+ghost use Rattle.clock.specs.Spelled.{ClockKeeps};
 use lines::order::Refusal;
 use register::Call;
 use register::Payload;
@@ -55,9 +56,13 @@ pub struct Clock {
 
 pub impl Planner for Clock as ClockPlanner {
     type Call = Call;
+
     type Reply = Reply;
+
     type Outer = Asked;
+
     type Answer = Told;
+
     type State = Clock;
 
     ghost view = { λ c. c };
@@ -71,7 +76,11 @@ pub impl Planner for Clock as ClockPlanner {
     ghost same = { clockSame };
 
     fn open(&mut self, size: u64) {
-        *self = Clock { time: 0, tag: 0, phase: Phase::Rising };
+        *self = Clock {
+            time: 0,
+            tag: 0,
+            phase: Phase::Rising,
+        };
     }
 
     fn begin(&mut self, c: Asked) {
@@ -114,7 +123,10 @@ pub impl Planner for Clock as ClockPlanner {
             Phase::Over(said) => said,
             _ => Said::Yes,
         };
-        Told { tag: self.tag, said }
+        Told {
+            tag: self.tag,
+            said,
+        }
     }
 }
 
@@ -133,3 +145,8 @@ impl Clock {
         }
     }
 }
+
+// The time stands, over whatever keeps a payload.
+pub fn clock_keeps()
+    ensures { λ _. ⌜ ClockKeeps ⌝ }
+{}

@@ -35,7 +35,8 @@ twices =
     record {
       Mem = Unit {0};
       comesUp = λ size. gives tt;
-      answers = λ s m. asks s (λ ok. cond ok (asks 7 (λ ok. gives (record { reply = ok; mem = tt }))) (gives (record { reply = false; mem = tt }))) }
+      answers = λ s m. asks s (λ ok. cond ok (asks 7 (λ ok. gives (record { reply = ok; mem = tt }))) (gives (record { reply = false; mem = tt })));
+    }
 
 abbrev pub twiceSame : ℕ → Twice → Unit {0} → Type 0
 twiceSame size t m = Unit {0}

@@ -67,13 +67,14 @@ module _ {U L C R C' R' : Type 0} (p : Planning C R C' R' U) (s : Stepping C R L
   -- THE STEPS OF BOTH
   abbrev pub stackOf : Stepping C' R' (Stack U L)
   stackOf =
-    record {
-      steps = λ h got. stepIn (h .me .doing) (h .me .upper) (h .me .lower) (h .lent) got;
-      opening = λ size. record { upper = p .rising size; lower = s .opening size; doing = Opens };
-      starts = λ c h. record { upper = p .starts c (h .upper); lower = h .lower; doing = Begun };
-      mending = λ h. record { upper = h .upper; lower = s .mending (h .lower); doing = Mends };
-      says = λ h. p .says (h .upper);
-      whole = λ h. s .whole (h .lower) }
+      record {
+        steps = λ h got. stepIn (h .me .doing) (h .me .upper) (h .me .lower) (h .lent) got;
+        opening = λ size. record { upper = p .rising size; lower = s .opening size; doing = Opens };
+        starts = λ c h. record { upper = p .starts c (h .upper); lower = h .lower; doing = Begun };
+        mending = λ h. record { upper = h .upper; lower = s .mending (h .lower); doing = Mends };
+        says = λ h. p .says (h .upper);
+        whole = λ h. s .whole (h .lower);
+      }
 
 -- Plans f T n y q: from what was asked in y on, the turns f ask for just what the plan q does, come to their end within n turns, and end at a state that T ties to what q gives.
 pub data Plans {C R U A : Type 0} (f : U → Option R → Asked U C) (T : U → A → Type 0) : ℕ → Asked U C → Plan C R A → Type 0 where

@@ -19,11 +19,14 @@ use super::machines::Stepper;
 pub trait Planner {
     // what it asks below, and how it is answered
     type Call;
+
     type Reply;
 
     // what it is asked, and how it answers
     type Outer;
+
     type Answer;
+
     type State;
 
     ghost view: { Self → Self·State };
@@ -60,10 +63,16 @@ pub trait Planner {
 }
 
 // A stack is a machine: its layer over its machine.
-pub impl<U: Planner<Call = L::Call, Reply = L::Reply>, L: Stepper> Stepper for Stack<U, L> as StackStepper {
+pub impl<U: Planner<Call = L::Call, Reply = L::Reply>, L: Stepper> Stepper for Stack<
+    U,
+    L,
+> as StackStepper {
     type Call = U::Outer;
+
     type Reply = U::Answer;
+
     type Inside = (L::Call, L::Reply, L::Inside);
+
     type State = Stack<U::State, L::State>;
 
     ghost view = { λ s. record { upper = U·Planner .view (s .upper); lower = L·Stepper .view (s .lower); doing = s .doing } };

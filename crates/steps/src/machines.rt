@@ -10,6 +10,7 @@ use super::Lent;
 
 pub trait Stepper {
     type Call;
+
     type Reply;
 
     // what its parts say to each other: nothing, where it has none
