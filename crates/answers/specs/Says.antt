@@ -11,7 +11,7 @@ use Rattle.std.specs.Options.{mapped}
 use Rattle.meaning.specs.Rooms as meaning
 use Rattle.lines.specs.Calls.{areMany, allIn}
 use Rattle.lines.specs.Fields.{Took}
-use Rattle.lines.specs.Replies.{entry, entryIn, replyBytes, Tagged}
+use Rattle.lines.specs.Replies.{entryIn, replyBytes, Tagged}
 use Rattle.lines.specs.Turns.{numberOf}
 use Rattle.answers.specs.declared.Entry.{Entry}
 use Rattle.answers.specs.declared.Answer.{Answer}
@@ -19,9 +19,6 @@ use Rattle.answers.specs.declared.Answer.the-variants.{No, Yes, Number, Got, L
 
 abbrev pub shows : Entry → meaning.Shown
 shows x = record { key = now (x .key); num = x .number; size = x .length }
-
-abbrev pub bytesOfEntry : meaning.Shown → List ℕ
-bytesOfEntry x = entry x
 
 abbrev pub entryRead : Option (Entry × RefT (List ℕ)) → Option (Took meaning.Shown)
 entryRead o = mapped (λ p. record { value = shows (p .0); rest = now (p .1) }) o
