@@ -2,12 +2,13 @@
 ghost use mathlib.Core.Path.{_≡_};
 ghost use lib.ListN.{length};
 ghost use Rattle.std.specs.declared.option.Option.the-variants.{None, Some};
-ghost use Rattle.fills.specs.Fills.{Wrote};
+ghost use Rattle.fills.specs.Fills.{Added, Wrote};
 ghost use Rattle.lines.specs.Calls.{areMany, atEnd, lineOf};
-ghost use Rattle.lines.specs.Fits.{Bytes};
-ghost use Rattle.lines.specs.Replies.{answerIn, entryIn, gotIn, listIn, noIn, numIn, replyBytes, replyIn, taggedIn};
-ghost use Rattle.answers.specs.Says.{entryRead, fits, said, saying, says};
+ghost use Rattle.lines.specs.Fits.{Bytes, isName};
+ghost use Rattle.lines.specs.Replies.{answerIn, entry, entryIn, gotIn, listIn, noIn, numIn, replyBytes, replyIn, taggedIn};
+ghost use Rattle.answers.specs.Says.{entryRead, fits, said, saying, says, shows};
 use fills::Field;
+use fills::append;
 use fills::write_line;
 use lines::fields::content_in;
 use lines::fields::name_in;
@@ -59,6 +60,13 @@ pub fn next_entry(entries: &[u8]) -> Option<(Entry<'_>, &[u8])>
         },
         rest,
     ))
+}
+
+// Writes an entry from `at` on and says where it ends, or leaves `out` alone.
+pub fn put_entry(shown: Entry<'_>, at: usize, out: &mut [u8]) -> Option<usize>
+    ensures { λ r. ⌜ Added (isName (now (shown .entry .key))) at (entry (shows (shown .entry))) (now (out .entry)) r (now (out .exit)) ⌝ }
+{
+    append(&[Field::Name(shown.key), Field::U64(shown.number), Field::U64(shown.length)], at, out)
 }
 
 // Are these so many entries, and nothing else?

@@ -11,15 +11,17 @@ use Rattle.std.specs.declared.option.Option.{Option}
 use Rattle.std.specs.declared.option.Option.the-variants.{Some, None}
 use Rattle.meaning.specs.Lists.{every}
 use Rattle.lines.specs.Fields.{number}
-use Rattle.lines.specs.Calls.{name, content, many, lineOf}
+use Rattle.lines.specs.Calls.{expected, name, content, many, lineOf}
+use Rattle.lines.specs.Means.{expects}
 use Rattle.fills.specs.declared.Field.{Field}
-use Rattle.fills.specs.declared.Field.the-variants.{U8, U16, U32, U64, Name, Content, Plain}
+use Rattle.fills.specs.declared.Field.the-variants.{U8, U16, U32, U64, Expects, Name, Content, Plain}
 
 abbrev pub fieldBytes : Field → List ℕ
 fieldBytes (U8 n) = number 1 n
 fieldBytes (U16 n) = number 2 n
 fieldBytes (U32 n) = number 4 n
 fieldBytes (U64 n) = number 8 n
+fieldBytes (Expects x) = expected (expects x)
 fieldBytes (Name bs) = name (now bs)
 fieldBytes (Content bs) = content (now bs)
 fieldBytes (Plain bs) = now bs
@@ -30,6 +32,7 @@ fieldFits (U8 n) = true
 fieldFits (U16 n) = true
 fieldFits (U32 n) = true
 fieldFits (U64 n) = true
+fieldFits (Expects x) = true
 fieldFits (Name bs) = ltb (length (now bs)) 256
 fieldFits (Content bs) = ltb (length (now bs)) 4294967296
 fieldFits (Plain bs) = ltb (length (now bs)) 4294967296
@@ -53,3 +56,8 @@ putAt at bs out = take at out ++ (bs ++ drop (at + length bs) out)
 pub record Wrote (fits : Bool) (line out : List ℕ) (told : Option ℕ) (after : List ℕ) : Type 0 where
   pub told-is : told ≡ cond (fits && leb (length line) (length out)) (Some (length line)) None
   pub after-is : after ≡ cond (fits && leb (length line) (length out)) (line ++ drop (length line) out) out
+
+-- the same of bytes that go after what stands before a place
+pub record Added (fits : Bool) (at : ℕ) (bs out : List ℕ) (told : Option ℕ) (after : List ℕ) : Type 0 where
+  pub told-is : told ≡ cond (fits && leb (at + length bs) (length out)) (Some (at + length bs)) None
+  pub after-is : after ≡ cond (fits && leb (at + length bs) (length out)) (putAt at bs out) out

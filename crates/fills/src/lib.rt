@@ -5,9 +5,11 @@ ghost use Prim.Native.Nat.{_+_, _≤_};
 ghost use lib.ListN.{length};
 ghost use Rattle.std.specs.declared.option.Option.the-variants.{None, Some};
 ghost use Rattle.meaning.specs.Lists.{every};
-ghost use Rattle.lines.specs.Calls.{lineOf};
+ghost use Rattle.lines.specs.Calls.{expected, lineOf};
+ghost use Rattle.lines.specs.Means.{expects};
 ghost use Rattle.lines.specs.Fields.{number};
-ghost use Rattle.fills.specs.Fills.{Wrote, bodyBytes, fieldBytes, fieldFits, lineFits, putAt, sized};
+ghost use Rattle.fills.specs.Fills.{Added, Wrote, bodyBytes, fieldBytes, fieldFits, lineFits, putAt, sized};
+use lines::calls::Expected;
 
 #[derive(Clone, Copy)]
 pub enum Field<'a> {
@@ -15,6 +17,7 @@ pub enum Field<'a> {
     U16(u16),
     U32(u32),
     U64(u64),
+    Expects(Expected),
     Name(&'a [u8]),
     Content(&'a [u8]),
     // bytes without their count
@@ -30,6 +33,8 @@ fn size(field: Field<'_>) -> Option<usize>
         Field::U16(_) => Some(2),
         Field::U32(_) => Some(4),
         Field::U64(_) => Some(8),
+        Field::Expects(Expected::Any | Expected::Absent) => Some(1),
+        Field::Expects(Expected::Is(_)) => Some(9),
         Field::Name(bytes) => {
             if bytes.len() < 256 {
                 Some(1 + bytes.len())
@@ -72,6 +77,21 @@ fn put_u32(out: &mut [u8], at: usize, n: u32) -> usize
     put(out, at, &n.to_be_bytes())
 }
 
+fn put_expected(out: &mut [u8], at: usize, version: Expected) -> usize
+    requires { ⌜ at + length (expected (expects version)) ≤ length (now out) ⌝ }
+    ensures at { λ r. ⌜ r ≡ at + length (expected (expects version)) ⌝ }
+    ensures out { λ _. ⌜ now (out .exit) ≡ putAt at (expected (expects version)) (now (out .entry)) ⌝ }
+{
+    match version {
+        Expected::Any => put(out, at, &[0]),
+        Expected::Absent => put(out, at, &[1]),
+        Expected::Is(number) => {
+            let at = put(out, at, &[2]);
+            put(out, at, &number.to_be_bytes())
+        }
+    }
+}
+
 fn put_field(out: &mut [u8], at: usize, field: Field<'_>) -> usize
     requires { ⌜ at + length (fieldBytes field) ≤ length (now out) ⌝ ∗ ⌜ fieldFits field ≡ true ⌝ }
     ensures at { λ r. ⌜ r ≡ at + length (fieldBytes (field .entry)) ⌝ }
@@ -82,6 +102,7 @@ fn put_field(out: &mut [u8], at: usize, field: Field<'_>) -> usize
         Field::U16(n) => put(out, at, &n.to_be_bytes()),
         Field::U32(n) => put_u32(out, at, n),
         Field::U64(n) => put(out, at, &n.to_be_bytes()),
+        Field::Expects(version) => put_expected(out, at, version),
         Field::Name(bytes) => {
             let at = put(out, at, &[bytes.len() as u8]);
             put(out, at, bytes)
@@ -130,5 +151,16 @@ pub fn write_line(tag: u32, fields: &[Field<'_>], out: &mut [u8]) -> Option<usiz
     }
     let at = put_u32(out, 0, total as u32);
     let at = put_u32(out, at, tag);
+    Some(put_fields(out, at, fields))
+}
+
+// Writes the fields from `at` on and says where they end, or leaves `out` alone.
+pub fn append(fields: &[Field<'_>], at: usize, out: &mut [u8]) -> Option<usize>
+    ensures { λ r. ⌜ Added (lineFits (now (fields .entry))) at (bodyBytes (now (fields .entry))) (now (out .entry)) r (now (out .exit)) ⌝ }
+{
+    let size = total(fields)? - 4;
+    if out.len() < at || out.len() - at < size {
+        return None;
+    }
     Some(put_fields(out, at, fields))
 }

@@ -52,7 +52,7 @@ pos : (k : ℕ) → 0 < 256 ^ k
 pos zero = omega arith
 pos (suc k) = omega (arith, pos k, pow-succ' 256 k)
 
-value-number : (k n : ℕ) (l : List ℕ) → n < 256 ^ k → value k (number k n ++ l) ≡ n
+pub value-number : (k n : ℕ) (l : List ℕ) → n < 256 ^ k → value k (number k n ++ l) ≡ n
 value-number zero n l h = omega (arith, pow-zero 256)
 value-number (suc k) n l h = ap (λ (m : ℕ). n / 256 ^ k * 256 ^ k + m) (value-number k (n % 256 ^ k) l (mod-lt n (pos k))) ∙ div-add-mod' n (256 ^ k)
 
@@ -134,6 +134,16 @@ pub counted-laws : (k : ℕ) → Laws (counted k) (countedIn k) (CountedFits k)
 counted-laws k = record { forth = counted-forth k; back = counted-back k }
 
 -- SEVERAL FIELDS
+
+-- what is read off these bytes
+pub record Forth {C : Type 0} (c : C) (l : List ℕ) (p : List ℕ → Option C) : Type 0 where
+  pub reads : p l ≡ Some c
+
+pub go-on : {A C : Type 0} {write : A → List ℕ} {read : List ℕ → Option (Took A)} {Ok : A → Type 0} {c : C} → Laws write read Ok → (a : A) (l : List ℕ) (f : A → List ℕ → Option C) → Ok a → Forth c l (f a) → Forth c (write a ++ l) (λ l. read l then f)
+go-on {c = c} laws a l f ok e = record { reads = then-forth laws a l f (Some c) ok (e .reads) }
+
+pub done : {C : Type 0} (c : C) → Forth c [] (λ l. atEnd l c)
+done c = record { reads = refl }
 
 -- whatever is read off l, with w l read in all, is as said
 pub record Back {C : Type 0} (Says : C → List ℕ → Type 0) (w : List ℕ → List ℕ) (p : List ℕ → Option C) : Type 0 where

@@ -3,6 +3,7 @@
 use mathlib.Core.Bool.{Bool}
 use mathlib.Core.List.{List, [], _∷_}
 use Prim.Native.Nat.{ℕ, _+_, _^_, _<_}
+use lib.Dec.{ltb}
 use lib.ListN.{length, getD}
 use Rattle.meaning.specs.Lists.{Name}
 use Rattle.meaning.specs.Rooms.{Rule, Expect, Any, Absent, Is, Call, MakeRoom, DropRoom, Put, Get, Remove, Look, Versions, Begin, PutPart, Complete, Abort, Hold, SetRules, Tick}
@@ -10,6 +11,10 @@ use Rattle.lines.specs.Calls.{callBytes}
 
 abbrev pub Bytes : List ℕ → Type 0
 Bytes l = (i : ℕ) → getD l i 0 < 256
+
+-- can the length of a name be said in its one byte
+abbrev pub isName : Name → Bool
+isName n = ltb (length n) 256
 
 abbrev pub NumberFits : (k : ℕ) → ℕ → Type 0
 NumberFits k n = n < 256 ^ k

@@ -1,6 +1,7 @@
 -- The answers as bytes: a line as a call's, with the tag of its call; an answer is its kind and its fields.
 -- Assumes nothing.
-use mathlib.Core.Bool.{Bool, cond, _&&_, _||_}
+use mathlib.Core.Bool.{Bool, true, cond, _&&_, _||_}
+use mathlib.Core.Path.{_≡_}
 use mathlib.Core.List.{List, [], _∷_}
 use Prim.Native.Nat.{ℕ, _+_, _<_}
 use lib.Dec.{eqb, leb}
@@ -71,3 +72,14 @@ answerIn l = numberIn 4 l then (λ n l. cond (eqb n (length l)) (taggedIn l) Non
 -- which answers a line can hold
 abbrev pub ShownFits : Shown → Type 0
 ShownFits x = NameFits (x .key) × NumberFits 8 (x .num) × NumberFits 8 (x .size)
+
+abbrev pub AnswerFits : Reply → Type 0
+AnswerFits (No k) = refusal k ≡ true
+AnswerFits Yes = Unit {0}
+AnswerFits (Num n) = NumberFits 8 n
+AnswerFits (Got n size bs) = NumberFits 8 n × NumberFits 8 size × ContentFits bs
+AnswerFits (List' xs) = NumberFits 2 (length xs) × Each ShownFits xs
+AnswerFits Full = Unit {0}
+
+abbrev pub ReplyFits : Reply → Type 0
+ReplyFits r = AnswerFits r × NumberFits 4 (4 + length (replyBytes r))

@@ -1,0 +1,4 @@
+pub mod Heads
+pub mod CallsBack
+pub mod AnswersBack
+pub mod Proved
