@@ -66,14 +66,8 @@ unfolding every many
 list-is n es b h =
     let w = all-written entry-laws n (now es) b h in
     let body : replyBytes (says (Listing n es)) ≡ number 1 4 ++ (number 2 n ++ (now es ++ [])) =
-    ap (λ (m : ℕ). number 1 4 ++ (number 2 m ++ (many entry (allIn entryIn n (now es)) ++ []))) (w .1) ∙ ap (λ (l : List ℕ). number 1 4 ++ (number 2 n ++ (l ++ []))) (sym (w .0)) in
+        ap (λ (m : ℕ). number 1 4 ++ (number 2 m ++ (many entry (allIn entryIn n (now es)) ++ []))) (w .1) ∙ ap (λ (l : List ℕ). number 1 4 ++ (number 2 n ++ (l ++ []))) (sym (w .0)) in
     record {
-<<<<<<< HEAD
-      fit = whole-says (length (now es)) _ (omega (arith, ap length (append-nil (now es))))
-          ∙ sym (ap (λ (t : Bool). t && ltb (4 + length (replyBytes (says (Listing n es)))) 4294967296) h ∙ ap (λ (l : List ℕ). ltb (4 + length l) 4294967296) body);
-      body = sym body;
-    }
-=======
         fit = whole-says (length (now es)) _ (omega (arith, ap length (append-nil (now es))))
             ∙ sym (ap (λ (t : Bool). t && ltb (4 + length (replyBytes (says (Listing n es)))) 4294967296) h ∙ ap (λ (l : List ℕ). ltb (4 + length l) 4294967296) body);
         body = sym body }
@@ -93,4 +87,3 @@ unfolding every many
 entry-added key m n at out r after h =
     subst (λ (t : Bool). Added t at (entry (record { key = now key; num = m; size = n })) out r after)
     (entry-fits (length (now key)) _ (λ k. omega (arith, length-append (now key) (number 8 m ++ (number 8 n ++ []))))) h
->>>>>>> d20cd1c5b4c43cad1af9651e5532f459fa534498
