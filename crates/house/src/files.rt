@@ -1,4 +1,4 @@
-// The six drive files of a house, in the current folder. Nothing can be proved of what a file holds.
+// The six drive files of a house, in the current folder. Nothing can be proved of what a file holds, so little is promised here.
 ghost use Rattle.drives.specs.Drives.{gone};
 use bays::Drives;
 use bays::Label;
