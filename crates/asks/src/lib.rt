@@ -1,10 +1,14 @@
 // Calls are written as lines, by whoever asks.
+ghost use mathlib.Core.List.{[], _∷_};
+ghost use mathlib.Core.Path.{_≡_};
 ghost use Rattle.asks.specs.Short.{fits};
 ghost use Rattle.fills.specs.Fills.{Wrote};
 ghost use Rattle.lines.specs.Calls.{callBytes, lineOf};
 ghost use Rattle.lines.specs.Means.{means};
+use fills::Field;
 use fills::Field::Content;
 use fills::Field::Expects;
+use fills::Field::Flag;
 use fills::Field::Name;
 use fills::Field::Plain;
 use fills::Field::U8;
@@ -15,14 +19,19 @@ use fills::write_line;
 use lines::calls::Call;
 use lines::calls::are_rules;
 
+fn time_fields(ms: u64) -> [Field<'static>; 2]
+    ensures { λ r. ⌜ r ≡ Field.U8 14 ∷ Field.U64 ms ∷ [] ⌝ }
+{
+    [U8(14), U64(ms)]
+}
+
 // Writes the call to the front of `out` and says how long its line is, or leaves `out` alone: where there is
 // too little room, or no line can hold it.
 pub fn write_call(tag: u32, call: Call<'_>, out: &mut [u8]) -> Option<usize>
     ensures { λ r. ⌜ Wrote (fits (call .entry)) (lineOf tag (callBytes (means (call .entry)))) (now (out .entry)) r (now (out .exit)) ⌝ }
 {
     match call {
-        Call::MakeRoom { name, keeps: false } => write_line(tag, &[U8(1), Name(name), U8(0)], out),
-        Call::MakeRoom { name, keeps: true } => write_line(tag, &[U8(1), Name(name), U8(1)], out),
+        Call::MakeRoom { name, keeps } => write_line(tag, &[U8(1), Name(name), Flag(keeps)], out),
         Call::DropRoom { name } => write_line(tag, &[U8(2), Name(name)], out),
         Call::Put { room, key, expected, bytes } => {
             write_line(tag, &[U8(3), Name(room), Name(key), Expects(expected), Content(bytes)], out)
@@ -52,6 +61,6 @@ pub fn write_call(tag: u32, call: Call<'_>, out: &mut [u8]) -> Option<usize>
             }
             write_line(tag, &[U8(13), Name(room), U8(count), Plain(rules)], out)
         }
-        Call::Time { ms } => write_line(tag, &[U8(14), U64(ms), Plain(&[])], out),
+        Call::Time { ms } => write_line(tag, &time_fields(ms), out),
     }
 }
