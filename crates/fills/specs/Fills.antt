@@ -11,16 +11,17 @@ use Rattle.std.specs.declared.option.Option.{Option}
 use Rattle.std.specs.declared.option.Option.the-variants.{Some, None}
 use Rattle.meaning.specs.Lists.{every}
 use Rattle.lines.specs.Fields.{number}
-use Rattle.lines.specs.Calls.{expected, name, content, many, lineOf}
+use Rattle.lines.specs.Calls.{flag, expected, name, content, many, lineOf}
 use Rattle.lines.specs.Means.{expects}
 use Rattle.fills.specs.declared.Field.{Field}
-use Rattle.fills.specs.declared.Field.the-variants.{U8, U16, U32, U64, Expects, Name, Content, Plain}
+use Rattle.fills.specs.declared.Field.the-variants.{U8, U16, U32, U64, Flag, Expects, Name, Content, Plain}
 
 abbrev pub fieldBytes : Field → List ℕ
 fieldBytes (U8 n) = number 1 n
 fieldBytes (U16 n) = number 2 n
 fieldBytes (U32 n) = number 4 n
 fieldBytes (U64 n) = number 8 n
+fieldBytes (Flag b) = flag b
 fieldBytes (Expects x) = expected (expects x)
 fieldBytes (Name bs) = name (now bs)
 fieldBytes (Content bs) = content (now bs)
@@ -32,6 +33,7 @@ fieldFits (U8 n) = true
 fieldFits (U16 n) = true
 fieldFits (U32 n) = true
 fieldFits (U64 n) = true
+fieldFits (Flag b) = true
 fieldFits (Expects x) = true
 fieldFits (Name bs) = ltb (length (now bs)) 256
 fieldFits (Content bs) = ltb (length (now bs)) 4294967296

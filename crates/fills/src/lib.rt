@@ -17,6 +17,7 @@ pub enum Field<'a> {
     U16(u16),
     U32(u32),
     U64(u64),
+    Flag(bool),
     Expects(Expected),
     Name(&'a [u8]),
     Content(&'a [u8]),
@@ -29,7 +30,7 @@ fn size(field: Field<'_>) -> Option<usize>
     ensures { λ r. ⌜ r ≡ cond (fieldFits (field .entry)) (Some (length (fieldBytes (field .entry)))) None ⌝ }
 {
     match field {
-        Field::U8(_) => Some(1),
+        Field::U8(_) | Field::Flag(_) => Some(1),
         Field::U16(_) => Some(2),
         Field::U32(_) => Some(4),
         Field::U64(_) => Some(8),
@@ -90,6 +91,8 @@ fn put_field(out: &mut [u8], at: usize, field: Field<'_>) -> usize
         Field::U16(n) => put(out, at, &n.to_be_bytes()),
         Field::U32(n) => put_u32(out, at, n),
         Field::U64(n) => put(out, at, &n.to_be_bytes()),
+        Field::Flag(true) => put(out, at, &[1]),
+        Field::Flag(false) => put(out, at, &[0]),
         Field::Expects(version) => put_expected(out, at, version),
         Field::Name(bytes) => {
             let at = put(out, at, &[bytes.len() as u8]);

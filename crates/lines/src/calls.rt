@@ -4,6 +4,7 @@ ghost use mathlib.Core.Bool.{cond, false, true};
 ghost use Rattle.std.specs.declared.option.Option.the-variants.{None, Some};
 ghost use Rattle.lines.specs.Calls.{abortIn, areMany, atEnd, beginIn, bodyIn, callIn, completeIn, dropRoomIn, expectedIn, getIn, holdIn, lookIn, makeRoomIn, partIn, putIn, removeIn, ruleIn, rulesIn, timeIn, versionsIn};
 ghost use Rattle.lines.specs.Fields.{numberRead};
+ghost use Rattle.lines.specs.Fits.{Bytes};
 ghost use Rattle.lines.specs.Means.{expectedRead, meant, means, ruleRead};
 use crate::fields::content_in;
 use crate::fields::name_in;
@@ -191,8 +192,9 @@ pub fn next_rule(rules: &[u8]) -> Option<(Rule<'_>, &[u8])>
 }
 
 // Are these so many rules, and nothing else?
-fn are_rules(count: u8, rules: &[u8]) -> bool
-    ensures { λ r. ⌜ r ≡ areMany ruleIn count (now (rules .entry)) ⌝ }
+pub fn are_rules(count: u8, rules: &[u8]) -> bool
+    ensures are { λ r. ⌜ r ≡ areMany ruleIn count (now (rules .entry)) ⌝ }
+    ensures bytes { λ _. ⌜ Bytes (now (rules .entry)) ⌝ }
 {
     let mut left = rules;
     for _ in 0..count {

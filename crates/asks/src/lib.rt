@@ -1,0 +1,66 @@
+// Calls are written as lines, by whoever asks.
+ghost use mathlib.Core.List.{[], _∷_};
+ghost use mathlib.Core.Path.{_≡_};
+ghost use Rattle.asks.specs.Short.{fits};
+ghost use Rattle.fills.specs.Fills.{Wrote};
+ghost use Rattle.lines.specs.Calls.{callBytes, lineOf};
+ghost use Rattle.lines.specs.Means.{means};
+use fills::Field;
+use fills::Field::Content;
+use fills::Field::Expects;
+use fills::Field::Flag;
+use fills::Field::Name;
+use fills::Field::Plain;
+use fills::Field::U8;
+use fills::Field::U16;
+use fills::Field::U32;
+use fills::Field::U64;
+use fills::write_line;
+use lines::calls::Call;
+use lines::calls::are_rules;
+
+fn time_fields(ms: u64) -> [Field<'static>; 2]
+    ensures { λ r. ⌜ r ≡ Field.U8 14 ∷ Field.U64 ms ∷ [] ⌝ }
+{
+    [U8(14), U64(ms)]
+}
+
+// Writes the call to the front of `out` and says how long its line is, or leaves `out` alone: where there is
+// too little room, or no line can hold it.
+pub fn write_call(tag: u32, call: Call<'_>, out: &mut [u8]) -> Option<usize>
+    ensures { λ r. ⌜ Wrote (fits (call .entry)) (lineOf tag (callBytes (means (call .entry)))) (now (out .entry)) r (now (out .exit)) ⌝ }
+{
+    match call {
+        Call::MakeRoom { name, keeps } => write_line(tag, &[U8(1), Name(name), Flag(keeps)], out),
+        Call::DropRoom { name } => write_line(tag, &[U8(2), Name(name)], out),
+        Call::Put { room, key, expected, bytes } => {
+            write_line(tag, &[U8(3), Name(room), Name(key), Expects(expected), Content(bytes)], out)
+        }
+        Call::Get { room, key, number, from, most } => {
+            write_line(tag, &[U8(4), Name(room), Name(key), U64(number), U64(from), U32(most)], out)
+        }
+        Call::Remove { room, key, number } => write_line(tag, &[U8(5), Name(room), Name(key), U64(number)], out),
+        Call::Look { room, beginning, after, most } => {
+            write_line(tag, &[U8(6), Name(room), Name(beginning), Name(after), U16(most)], out)
+        }
+        Call::Versions { room, key } => write_line(tag, &[U8(7), Name(room), Name(key)], out),
+        Call::Begin { room, key } => write_line(tag, &[U8(8), Name(room), Name(key)], out),
+        Call::Part { room, upload, place, bytes } => {
+            write_line(tag, &[U8(9), Name(room), U64(upload), U16(place), Content(bytes)], out)
+        }
+        Call::Complete { room, upload, expected } => {
+            write_line(tag, &[U8(10), Name(room), U64(upload), Expects(expected)], out)
+        }
+        Call::Abort { room, upload } => write_line(tag, &[U8(11), Name(room), U64(upload)], out),
+        Call::Hold { room, key, number, until } => {
+            write_line(tag, &[U8(12), Name(room), Name(key), U64(number), U64(until)], out)
+        }
+        Call::Rules { room, count, rules } => {
+            if !are_rules(count, rules) {
+                return None;
+            }
+            write_line(tag, &[U8(13), Name(room), U8(count), Plain(rules)], out)
+        }
+        Call::Time { ms } => write_line(tag, &time_fields(ms), out),
+    }
+}
