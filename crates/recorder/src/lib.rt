@@ -6,7 +6,7 @@ ghost use lib.ListN.{getD};
 ghost use Rattle.labels.specs.Times.{trusts};
 
 ghost use Rattle.steps.specs.declared.Lent.{Lent};
-ghost use Rattle.recorder.specs.Recording.{moved, noted, lowestIn, getsAtFirst, decided, goes, sees, readOn, writeOn, syncOn, begins, payloadIn, recorderCode, recorded, recorderSame};
+ghost use Rattle.recorder.specs.Recording.{moved, noted, lowestIn, getsAtFirst, decided, goes, sees, readOn, writeOn, syncOn, begins, payloadIn, recorderCode, recorded, recorderSame, RecorderStands};
 use labels::Label;
 use labels::Record;
 use labels::is_trusted;
@@ -275,3 +275,8 @@ pub impl Stepper for Recorder as RecorderStepper {
         true
     }
 }
+
+// What was set is got, after any cut, loss, replacement and mending: by this code, with any budget that is enough.
+pub fn recorder_stands()
+    ensures { λ _. ⌜ RecorderStands ⌝ }
+{}
