@@ -93,6 +93,15 @@ labelOf (some (root.has (root.committed t))) = Committed (record { time = t .ms 
 abbrev pub labelIn : List ℕ → Label
 labelIn b = labelOf (timed .decode b)
 
+-- a drive is trusted while its label is a record
+abbrev pub trusts : Label → Bool
+trusts Missing = false
+trusts Blank = false
+trusts Rebuilding = false
+trusts Empty = true
+trusts (Committed p) = true
+trusts Foreign = false
+
 -- a record of the code, and the same to be read
 abbrev pub recordFor : Record → root.Record Time
 recordFor kind.Empty = root.empty

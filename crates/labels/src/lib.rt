@@ -5,7 +5,7 @@ ghost use lib.ListN.{length};
 ghost use Rattle.std.specs.shelf.Text.{sameBytes};
 ghost use Rattle.drives.specs.Drives.{zeros};
 ghost use Rattle.root.specs.Labels.{sector as whole};
-ghost use Rattle.labels.specs.Times.{payloadOf, number, labelIn, labelBytes, LabelsStand};
+ghost use Rattle.labels.specs.Times.{payloadOf, number, labelIn, labelBytes, trusts, LabelsStand};
 use register::Payload;
 
 // The record that a label may have: nothing was ever committed, or this was.
@@ -86,6 +86,17 @@ pub fn read_label(sector: &[u8]) -> Label
         Label::Committed(Payload { time })
     } else {
         Label::Foreign
+    }
+}
+
+// Whether a drive that shows this is trusted: it has a record, of either kind.
+pub fn is_trusted(l: Label) -> bool
+    ensures { λ r. ⌜ r ≡ trusts l ⌝ }
+{
+    match l {
+        Label::Empty => true,
+        Label::Committed(_) => true,
+        _ => false,
     }
 }
 

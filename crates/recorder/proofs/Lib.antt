@@ -1,0 +1,3 @@
+pub mod Looks
+pub mod Tied
+pub mod Stands
