@@ -59,14 +59,14 @@ pub trait Stepper {
         ensures { λ r. ⌜ r ≡ code .whole (view (now (self .entry))) ⌝ };
 }
 
-// A machine in code, and the judge that it is held to.
-pub trait Judged: Stepper {
-    ghost judge: { ℕ → Judge Self·Call Self·Reply };
+// The judge that a machine in code is held to.
+pub trait Judges<M: Stepper>: Sized {
+    ghost judge: { ℕ → Judge M·Call M·Reply };
 }
 
 // What the readable machine keeps to, the code keeps to.
-pub fn code_keeps<M: Judged>()
-    ensures { λ _. ⌜ CodeKeeps (M·Stepper .code) (M·Stepper .most) (M·Stepper .machine) (M·Judged .judge) ⌝ }
+pub fn code_keeps<M: Stepper, J: Judges<M>>()
+    ensures { λ _. ⌜ CodeKeeps (M·Stepper .code) (M·Stepper .most) (M·Stepper .machine) (J·Judges .judge) ⌝ }
 {}
 
 // The code is as fair as the readable machine, and its stretches are no longer.
