@@ -35,13 +35,7 @@ fn perform<D: Disks>(ask: Ask, lent: &Lent, d: &mut D, sec: &mut [u8; 512]) -> u
     ensures does { λ r. ⌜ (D·Disks .known (now (d .entry)) → D·Disks .known (now (d .exit)) × (record { got = take r (now (sec .exit)); drives = D·Disks .model (now (d .exit)) } ≡ performed ask (now (lent .entry)) (D·Disks .model (now (d .entry))))) ⌝ }
 {
     match ask {
-        Ask::Read { drive, sector } => {
-            if d.read(drive, sector, sec) {
-                512
-            } else {
-                0
-            }
-        }
+        Ask::Read { drive, sector } => { if d.read(drive, sector, sec) { 512 } else { 0 } }
         Ask::Write { drive, sector, at } => {
             d.write(drive, sector, &lent.sector(at));
             0
@@ -83,7 +77,13 @@ pub fn open<M: Stepper, D: Disks>(m: &mut M, lent: &mut Lent, d: &mut D, size: u
 }
 
 // Answers a call.
-pub fn call<M: Stepper, D: Disks>(m: &mut M, lent: &mut Lent, d: &mut D, c: M::Call, most: u64) -> M::Reply
+pub fn call<M: Stepper, D: Disks>(
+    m: &mut M,
+    lent: &mut Lent,
+    d: &mut D,
+    c: M::Call,
+    most: u64,
+) -> M::Reply
     ensures code { λ r. ⌜ (D·Disks .known (now (d .entry)) → D·Disks .known (now (d .exit)) × Leaves (machineOf (M·Stepper .code) most .does c (record { me = M·Stepper .view (now (m .entry)); lent = now (lent .entry) })) (D·Disks .model (now (d .entry))) (record { reply = r; mem = record { me = M·Stepper .view (now (m .exit)); lent = now (lent .exit) } }) (D·Disks .model (now (d .exit)))) ⌝ }
     ensures read { λ r. ⌜ (D·Disks .known (now (d .entry)) → (size : ℕ) (x : M·Stepper .machine .Mem) → smallest ≤ size → size ≤ largest → M·Stepper .most ≤ most → M·Stepper .same size (record { me = M·Stepper .view (now (m .entry)); lent = now (lent .entry) }) x → Ends (λ y. (r ≡ y .reply) × M·Stepper .same size (record { me = M·Stepper .view (now (m .exit)); lent = now (lent .exit) }) (y .mem)) (M·Stepper .machine .does c x) (D·Disks .model (now (d .entry))) (D·Disks .model (now (d .exit)))) ⌝ }
 {

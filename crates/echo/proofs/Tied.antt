@@ -20,7 +20,8 @@ echo-tied size =
       does = λ c h m s. Goes.reads (λ got. whether (eqb (length got) 512)
           (λ t. Goes.writes (sector-placed (h .lent) s 0 got (eqb-true _ _ t)) (Goes.syncs (Goes.ends (refl, placed-ample (h .lent) s 0 got))))
           (λ t. Goes.ends (refl, s)));
-      mends = λ h m s. Goes.ends (refl, s) }
+      mends = λ h m s. Goes.ends (refl, s);
+    }
 
 pub twice-planned : (size : ℕ) → Planned twiceCode 3 size twices (twiceSame size)
 twice-planned size =
@@ -28,4 +29,5 @@ twice-planned size =
       rises = Plans.ends tt;
       answers = λ c u m s. Plans.calls (λ ok. wanted ok
           (λ t. Plans.calls (λ r. Plans.ends (refl, tt)))
-          (λ t. Plans.ends (refl, tt))) }
+          (λ t. Plans.ends (refl, tt)));
+    }

@@ -40,7 +40,8 @@ echoCode =
       starts = λ c e. record { sector = c; phase = Begun };
       mending = λ e. record { sector = e .sector; phase = Over true };
       says = λ e. saidIn (e .phase);
-      whole = λ e. true }
+      whole = λ e. true;
+    }
 
 -- THE MACHINE, to be read
 abbrev pub echoes : Machine ℕ Bool
@@ -49,7 +50,8 @@ echoes =
       Mem = Unit {0};
       opens = λ size. answer tt;
       does = λ s m. read 0 s (λ b. cond (eqb (length b) 512) (write 1 s b (sync 1 (answer (record { reply = true; mem = tt })))) (answer (record { reply = false; mem = tt })));
-      mends = λ m. answer (record { whole = true; mem = tt }) }
+      mends = λ m. answer (record { whole = true; mem = tt });
+    }
 
 abbrev pub echoSame : ℕ → Held Echo → Unit {0} → Type 0
 echoSame size h m = Ample (h .lent)

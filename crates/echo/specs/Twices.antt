@@ -1,6 +1,6 @@
 -- A layer that copies a sector, and then another where that could be done: what its code does, and the same to be read.
 -- Assumes nothing.
-use mathlib.Core.Bool.{Bool, true, false, cond}
+use mathlib.Core.Bool.{Bool, false, cond}
 use Prim.Native.Nat.{ℕ}
 use Rattle.drives.specs.Layers.{Layer, gives, asks}
 use Rattle.steps.specs.Stacks.{Asked, Planning}
@@ -35,7 +35,8 @@ twices =
     record {
       Mem = Unit {0};
       comesUp = λ size. gives tt;
-      answers = λ s m. asks s (λ ok. cond ok (asks 7 (λ ok. gives (record { reply = ok; mem = tt }))) (gives (record { reply = false; mem = tt }))) }
+      answers = λ s m. asks s (λ ok. cond ok (asks 7 (λ ok. gives (record { reply = ok; mem = tt }))) (gives (record { reply = false; mem = tt })));
+    }
 
 abbrev pub twiceSame : ℕ → Twice → Unit {0} → Type 0
 twiceSame size t m = Unit {0}

@@ -32,8 +32,11 @@ pub struct Echo {
 
 pub impl Stepper for Echo as EchoStepper {
     type Call = u64;
+
     type Reply = bool;
+
     type Inside = ();
+
     type State = Echo;
 
     ghost view = { λ e. e };
@@ -47,11 +50,17 @@ pub impl Stepper for Echo as EchoStepper {
     ghost same = { echoSame };
 
     fn open(&mut self, size: u64) {
-        *self = Echo { sector: 0, phase: Phase::Over { ok: false } };
+        *self = Echo {
+            sector: 0,
+            phase: Phase::Over { ok: false },
+        };
     }
 
     fn begin(&mut self, c: u64) {
-        *self = Echo { sector: c, phase: Phase::Begun };
+        *self = Echo {
+            sector: c,
+            phase: Phase::Begun,
+        };
     }
 
     fn mend(&mut self) {
@@ -62,13 +71,20 @@ pub impl Stepper for Echo as EchoStepper {
         match self.phase {
             Phase::Begun => {
                 self.phase = Phase::Reading;
-                Ask::Read { drive: 0, sector: self.sector }
+                Ask::Read {
+                    drive: 0,
+                    sector: self.sector,
+                }
             }
             Phase::Reading => {
                 if got.len() == 512 {
                     lent.place(0, got);
                     self.phase = Phase::Writing;
-                    Ask::Write { drive: 1, sector: self.sector, at: 0 }
+                    Ask::Write {
+                        drive: 1,
+                        sector: self.sector,
+                        at: 0,
+                    }
                 } else {
                     self.phase = Phase::Over { ok: false };
                     Ask::Done
@@ -108,9 +124,13 @@ pub enum Twice {
 
 pub impl Planner for Twice as TwicePlanner {
     type Call = u64;
+
     type Reply = bool;
+
     type Outer = u64;
+
     type Answer = bool;
+
     type State = Twice;
 
     ghost view = { λ t. t };

@@ -2,11 +2,11 @@
 -- Assumes nothing.
 use mathlib.Core.Path.{_≡_, refl, sym, ap, _∙_}
 use mathlib.Core.Bool.{Bool, true, false, cond}
-use mathlib.Core.List.{List, [], _++_}
+use mathlib.Core.List.{List, _++_}
 use Prim.Native.Nat.{ℕ, _+_, _-_, _≤_, min}
 use native.Mathlib.Omega.{arith}
 use lib.Dec.{eqb}
-use lib.ListN.{length, take, drop, length-append, length-take, length-drop, length-replicate}
+use lib.ListN.{length, take, drop, length-append, length-drop, length-replicate}
 use lib.Seq.{length-take-le, take-at, drop-at, take-take, drop-drop, take-append-le, drop-append-le, drop-append-add}
 use borrow.Author.Tests.{eq-eqb, eqb-true}
 use Rattle.std.proofs.shelf.Lists.{drop-take}
@@ -43,7 +43,7 @@ module _ (lent : Lent) (ample : Ample lent) (at : ℕ) (got : List ℕ) where
       go true h =
           length-append front rest ∙
           (let l = front-long in let g = eqb-true _ _ h in let m = length-append got (drop (a + 512) xs) in let n = length-drop (a + 512) xs in let e = ample in
-           omega arith)
+          omega arith)
 
   -- what was put there is read back
   pub sector-placed : length got ≡ 512 → sectorAt at (placed at got lent) ≡ got
@@ -79,8 +79,8 @@ module _ (lent : Lent) (ample : Ample lent) (at : ℕ) (got : List ℕ) where
           let m : (a + 512) + n ≡ min b 3584 = omega arith in
           ap (take 512)
           (ap (λ o. drop o (front ++ rest)) (sym i) ∙
-           drop-append-add front rest (512 + n) ∙
-           ap (λ o. drop o rest) (sym j) ∙
-           drop-append-add got (drop (a + 512) xs) n ∙
-           drop-drop n (a + 512) xs ∙
-           ap (λ o. drop o xs) m)
+          drop-append-add front rest (512 + n) ∙
+          ap (λ o. drop o rest) (sym j) ∙
+          drop-append-add got (drop (a + 512) xs) n ∙
+          drop-drop n (a + 512) xs ∙
+          ap (λ o. drop o xs) m)

@@ -1,12 +1,12 @@
 -- Whatever can happen to a machine in code can happen to the readable machine that it is tied to.
 -- Assumes nothing.
-use mathlib.Core.Path.{_≡_, refl, sym, subst, subst⁻¹}
+use mathlib.Core.Path.{_≡_, subst, subst⁻¹}
 use mathlib.Core.Bool.{Bool}
-use mathlib.Core.List.{List, [], _∷_}
+use mathlib.Core.List.{List, _∷_}
 use Prim.Native.Nat.{ℕ, _≤_}
-use Rattle.drives.specs.Drives.{smallest, largest, Drives, Ran, run, Upto}
-use Rattle.drives.specs.Machines.{Machine, Event, World, Trace, Judge, Keeps, Within, longest, weakAfter}
-use Rattle.steps.specs.Steps.{Held, Stepped, Stepping, machineOf}
+use Rattle.drives.specs.Drives.{Drives, Ran}
+use Rattle.drives.specs.Machines.{Machine, Event, World, Trace, Judge, longest, weakAfter}
+use Rattle.steps.specs.Steps.{Held, Stepping, machineOf}
 use Rattle.steps.specs.Ties.{Tied, TiedAll, CodeKeeps, CodeWithin}
 use Rattle.steps.proofs.Alike.{Alike, Same, goes-runs, alike-map, alike-run, alike-upto, alike-fair, alike-ops}
 
@@ -18,10 +18,11 @@ pub record Mirrors {C R : Type 0} (e r : Machine C R) (size : ℕ) (S : e .Mem �
 
 pub tied-mirrors : {C R M : Type 0} {s : Stepping C R M} {n size : ℕ} {e : Machine C R} {S : Held M → e .Mem → Type 0} → Tied s n size e S → (b : ℕ) → n ≤ b → Mirrors (machineOf s b) e size S
 tied-mirrors t b h =
-  record {
-    opens = goes-runs (t .opens) b h;
-    does = λ c g m s. alike-map _ (λ a b x. x) (goes-runs (t .does c g m s) b h);
-    mends = λ g m s. alike-map _ (λ a b x. x) (goes-runs (t .mends g m s) b h) }
+    record {
+      opens = goes-runs (t .opens) b h;
+      does = λ c g m s. alike-map _ (λ a b x. x) (goes-runs (t .does c g m s) b h);
+      mends = λ g m s. alike-map _ (λ a b x. x) (goes-runs (t .mends g m s) b h);
+    }
 
 module _ {C R : Type 0} {e r : Machine C R} {size : ℕ} {S : e .Mem → r .Mem → Type 0} (t : Mirrors e r size S) where
   -- where the readable machine can be when e is at a world
@@ -75,12 +76,14 @@ module _ {C R M : Type 0} {s : Stepping C R M} {n : ℕ} {e : Machine C R} {S : 
 
   pub code-within : CodeWithin s n e
   code-within k b h size lo hi es ws =
-    let m = tied-mirrors (t size lo hi) b h in (
-      λ d z. elim (seen m z) [ Seen.offs x ↦ alike-fair (m .opens) (k size lo hi es ws .0 d x) ],
-      λ g d z. elim (seen m z) [ Seen.ons s x ↦
-        let w = k size lo hi es ws .1 _ d x in (
-          λ c. alike-fair (m .does c _ _ s) (w .0 c),
-          alike-fair (m .mends _ _ s) (w .1),
-          subst⁻¹ (λ o. o ≤ longest) (alike-ops (m .mends _ _ s) d) (w .2),
-        ) ],
-    )
+      let m = tied-mirrors (t size lo hi) b h in (
+        λ d z. elim (seen m z) [ Seen.offs x ↦ alike-fair (m .opens) (k size lo hi es ws .0 d x) ],
+        λ g d z. elim (seen m z) [
+          | Seen.ons s x ↦
+              let w = k size lo hi es ws .1 _ d x in (
+                λ c. alike-fair (m .does c _ _ s) (w .0 c),
+                alike-fair (m .mends _ _ s) (w .1),
+                subst⁻¹ (λ o. o ≤ longest) (alike-ops (m .mends _ _ s) d) (w .2),
+              )
+        ],
+      )

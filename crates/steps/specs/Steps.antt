@@ -51,8 +51,8 @@ sectorAt at lent = take 512 (drop (min at 3584) (lent .bytes))
 abbrev pub placed : ℕ → List ℕ → Lent → Lent
 placed at got lent =
     cond (eqb (length got) 512)
-      (record { bytes = take (min at 3584) (lent .bytes) ++ (got ++ drop (min at 3584 + 512) (lent .bytes)) })
-      lent
+    (record { bytes = take (min at 3584) (lent .bytes) ++ (got ++ drop (min at 3584 + 512) (lent .bytes)) })
+    lent
 
 -- one request, and how it goes on
 abbrev pub performs : {A : Type 0} → Ask → Lent → (List ℕ → Io A) → A → Io A
@@ -76,8 +76,9 @@ module _ {C R M : Type 0} (s : Stepping C R M) where
   -- What it keeps in memory is its state and the lent memory, whatever that holds.
   abbrev pub machineOf : ℕ → Machine C R
   machineOf n =
-    record {
-      Mem = Held M;
-      opens = λ size. runs (s .steps) n (first (s .opening size) unused);
-      does = λ c h. then' (runs (s .steps) n (first (s .starts c (h .me)) (h .lent))) (λ g. answer (record { reply = s .says (g .me); mem = g }));
-      mends = λ h. then' (runs (s .steps) n (first (s .mending (h .me)) (h .lent))) (λ g. answer (record { whole = s .whole (g .me); mem = g })) }
+      record {
+        Mem = Held M;
+        opens = λ size. runs (s .steps) n (first (s .opening size) unused);
+        does = λ c h. then' (runs (s .steps) n (first (s .starts c (h .me)) (h .lent))) (λ g. answer (record { reply = s .says (g .me); mem = g }));
+        mends = λ h. then' (runs (s .steps) n (first (s .mending (h .me)) (h .lent))) (λ g. answer (record { whole = s .whole (g .me); mem = g }));
+      }

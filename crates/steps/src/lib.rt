@@ -1,8 +1,9 @@
 // Machines in code: each does one step at a time and asks for one thing at a time, and is tied to the machine of the theorems.
 ghost use mathlib.Core.Path.{_≡_};
 ghost use Rattle.steps.specs.Steps.{unused, sectorAt, placed};
-pub mod machines;
+
 pub mod layers;
+pub mod machines;
 
 // The memory that is lent to a machine for its sectors. It means nothing between calls. A machine that wants more of it gets a field of its own here.
 #[derive(Drop)]

@@ -1,15 +1,15 @@
 // A machine in code, and the readable machine that it is tied to.
 ghost use mathlib.Core.Path.{_≡_};
-ghost use Prim.Native.Nat.{ℕ, _≤_};
-ghost use Rattle.drives.specs.Drives.{smallest, largest};
+ghost use Prim.Native.Nat.{ℕ};
 ghost use Rattle.drives.specs.Machines.{Machine, Judge};
 ghost use Rattle.steps.specs.Steps.{Held, Stepped, Stepping};
-ghost use Rattle.steps.specs.Ties.{Tied, CodeKeeps, CodeWithin};
+ghost use Rattle.steps.specs.Ties.{TiedAll, CodeKeeps, CodeWithin};
 use super::Ask;
 use super::Lent;
 
 pub trait Stepper {
     type Call;
+
     type Reply;
 
     // what its parts say to each other: nothing, where it has none
@@ -32,7 +32,8 @@ pub trait Stepper {
     // between calls, on drives of a size: which state of the code stands for which memory of the readable machine
     ghost same: { ℕ → Held Self·State → machine .Mem → Type 0 };
 
-    law tied: { (size : ℕ) → smallest ≤ size → size ≤ largest → Tied code most size machine (same size) };
+    // the code is that machine
+    law tied: { TiedAll code most machine same };
 
     // Begins to come up on drives of a size.
     fn open(&mut self, size: u64)

@@ -17,4 +17,5 @@ returns-then-read g c =
     record {
       few = search needs;
       does = λ k. let h = c .if-read .ensures tt k in
-        (h .0, ap₂ P (t ∙ h .2) (h .1) ∙ sym (ap (λ a. performed a (c .args .lent .now) (g .D·Disks .model (c .args .d .now))) (c .in-Read .is))) }
+          (h .0, ap₂ P (t ∙ h .2) (h .1) ∙ sym (ap (λ a. performed a (c .args .lent .now) (g .D·Disks .model (c .args .d .now))) (c .in-Read .is)));
+    }
