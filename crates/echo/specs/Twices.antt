@@ -1,6 +1,6 @@
 -- A layer that copies a sector, and then another where that could be done: what its code does, and the same to be read.
 -- Assumes nothing.
-use mathlib.Core.Bool.{Bool, true, false, cond}
+use mathlib.Core.Bool.{Bool, false, cond}
 use Prim.Native.Nat.{ℕ}
 use Rattle.drives.specs.Layers.{Layer, gives, asks}
 use Rattle.steps.specs.Stacks.{Asked, Planning}

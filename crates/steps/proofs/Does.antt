@@ -1,6 +1,6 @@
 -- The rules by which steps are shown to go to a program, request by request.
 -- Assumes nothing.
-use mathlib.Core.Path.{_≡_, refl, sym, ap, fun-ext, subst⁻¹}
+use mathlib.Core.Path.{_≡_, refl, ap, fun-ext, subst⁻¹}
 use mathlib.Core.Bool.{Bool, true, false, cond}
 use mathlib.Core.List.{List, []}
 use Prim.Native.Nat.{ℕ, zero, suc, _≤_}
@@ -9,7 +9,7 @@ use Rattle.drives.specs.Drives.{Io, answer, read, write, sync, then'}
 use Rattle.steps.specs.Steps.{Held, Stepped, sectorAt}
 use Rattle.steps.specs.Ties.{Goes}
 use Rattle.steps.specs.declared.Lent.{Lent}
-use Rattle.steps.specs.declared.Ask.the-variants.{Read, Write, Sync, Again, Done}
+use Rattle.steps.specs.declared.Ask.the-variants.{Read, Write, Sync, Again}
 
 pub then-then : {A B C : Type 0} (p : Io A) (f : A → Io B) (g : B → Io C) → then' (then' p f) g ≡ then' p (λ a. then' (f a) g)
 unfolding then'

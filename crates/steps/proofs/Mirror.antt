@@ -1,12 +1,12 @@
 -- Whatever can happen to a machine in code can happen to the readable machine that it is tied to.
 -- Assumes nothing.
-use mathlib.Core.Path.{_≡_, refl, sym, subst, subst⁻¹}
+use mathlib.Core.Path.{_≡_, subst, subst⁻¹}
 use mathlib.Core.Bool.{Bool}
-use mathlib.Core.List.{List, [], _∷_}
+use mathlib.Core.List.{List, _∷_}
 use Prim.Native.Nat.{ℕ, _≤_}
-use Rattle.drives.specs.Drives.{smallest, largest, Drives, Ran, run, Upto}
-use Rattle.drives.specs.Machines.{Machine, Event, World, Trace, Judge, Keeps, Within, longest, weakAfter}
-use Rattle.steps.specs.Steps.{Held, Stepped, Stepping, machineOf}
+use Rattle.drives.specs.Drives.{Drives, Ran}
+use Rattle.drives.specs.Machines.{Machine, Event, World, Trace, Judge, longest, weakAfter}
+use Rattle.steps.specs.Steps.{Held, Stepping, machineOf}
 use Rattle.steps.specs.Ties.{Tied, TiedAll, CodeKeeps, CodeWithin}
 use Rattle.steps.proofs.Alike.{Alike, Same, goes-runs, alike-map, alike-run, alike-upto, alike-fair, alike-ops}
 

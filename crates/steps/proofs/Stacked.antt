@@ -1,23 +1,21 @@
 -- The steps of a layer in code over a machine in code are the readable layer over the readable machine.
 -- Assumes nothing.
-use mathlib.Core.Path.{_≡_, refl, sym, subst, subst⁻¹}
+use mathlib.Core.Path.{_≡_, refl, subst, subst⁻¹}
 use mathlib.Core.List.{List, []}
-use Prim.Native.Nat.{ℕ, suc, _+_, _*_, _≤_}
+use Prim.Native.Nat.{ℕ, suc, _+_, _*_}
 use native.Mathlib.Nat.{suc-mul}
 use native.Mathlib.Omega.{arith}
-use Rattle.drives.specs.Drives.{Io, answer, then'}
+use Rattle.drives.specs.Drives.{Io, then'}
 use Rattle.drives.specs.Machines.{Machine}
-use Rattle.drives.specs.Layers.{Plan, gives, asks, Layer, through, over}
+use Rattle.drives.specs.Layers.{Plan, Layer, through, over}
 use Rattle.steps.specs.Steps.{Held, Stepped, Stepping}
 use Rattle.steps.specs.Ties.{Goes, Tied}
 use Rattle.steps.specs.Stacks.{Asked, Planning, Plans, Planned, turn, onDone, lifted, stackOf, both, enough}
 use Rattle.steps.specs.declared.Lent.{Lent}
-use Rattle.steps.specs.declared.Ask.the-variants.{Read, Write, Sync, Again, Done}
-use Rattle.steps.specs.declared.Next.the-variants.{Call, Ready}
+use Rattle.steps.specs.declared.Ask.the-variants.{Done}
 use Rattle.steps.specs.declared.Doing.{Doing}
-use Rattle.steps.specs.declared.Doing.the-variants.{Opens, Begun, Waits, Mends}
+use Rattle.steps.specs.declared.Doing.the-variants.{Opens, Waits, Mends}
 use Rattle.steps.specs.declared.Stack.{Stack}
-use Rattle.std.specs.declared.option.Option.the-variants.{Some, None}
 use Rattle.steps.proofs.Does.{then-then, later}
 
 module _ {U L C R C' R' : Type 0} (p : Planning C R C' R' U) (s : Stepping C R L) where

@@ -1,10 +1,9 @@
 -- A layer in code over a machine in code: the steps of both, and what ties the layer to a layer that is written to be read.
 -- Assumes nothing.
 use mathlib.Core.Path.{_≡_}
-use mathlib.Core.List.{List, []}
+use mathlib.Core.List.{List}
 use Prim.Native.Nat.{ℕ, suc, _+_, _*_, _≤_}
 use Rattle.drives.specs.Drives.{smallest, largest}
-use Rattle.drives.specs.Machines.{Machine}
 use Rattle.drives.specs.Layers.{Plan, gives, asks, Layer}
 use Rattle.steps.specs.Steps.{Held, Stepped, Stepping}
 use Rattle.steps.specs.declared.Lent.{Lent}
@@ -85,6 +84,10 @@ pub data Plans {C R U A : Type 0} (f : U → Option R → Asked U C) (T : U → 
 pub record Planned {C R C' R' U : Type 0} (p : Planning C R C' R' U) (n size : ℕ) (l : Layer C R C' R') (T : U → l .Mem → Type 0) : Type 0 where
   pub rises : Plans (p .turns) T n (p .turns (p .rising size) None) (l .comesUp size)
   pub answers : (c : C') (u : U) (m : l .Mem) → T u m → Plans (p .turns) (λ v x. (p .says v ≡ x .reply) × T v (x .mem)) n (p .turns (p .starts c u) None) (l .answers c m)
+
+-- the same on drives of every size
+abbrev pub PlannedAll : {C R C' R' U : Type 0} (p : Planning C R C' R' U) (n : ℕ) (l : Layer C R C' R') → (ℕ → U → l .Mem → Type 0) → Type 0
+PlannedAll p n l T = (size : ℕ) → smallest ≤ size → size ≤ largest → Planned p n size l (T size)
 
 -- what the state of a stack stands for
 abbrev pub both : {U L A B : Type 0} → (U → A → Type 0) → (Held L → B → Type 0) → Held (Stack U L) → record { below : B; above : A } → Type 0

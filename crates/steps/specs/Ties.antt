@@ -1,7 +1,6 @@
 -- What ties the steps of a machine in code to a machine that is written to be read.
 -- Assumes nothing.
 use mathlib.Core.Path.{_≡_}
-use mathlib.Core.Bool.{Bool}
 use mathlib.Core.List.{List, []}
 use Prim.Native.Nat.{ℕ, suc, _≤_}
 use Rattle.drives.specs.Drives.{smallest, largest, Io, answer, read, write, sync}

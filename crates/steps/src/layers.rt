@@ -1,12 +1,10 @@
 // A layer in code, the readable layer that it is tied to, and the stack of a layer over a machine.
 ghost use mathlib.Core.Path.{_≡_};
-ghost use Prim.Native.Nat.{ℕ, _≤_};
-ghost use Rattle.drives.specs.Drives.{smallest, largest};
+ghost use Prim.Native.Nat.{ℕ};
 ghost use Rattle.drives.specs.Machines.{Machine};
 ghost use Rattle.drives.specs.Layers.{Layer, over};
 ghost use Rattle.steps.specs.Steps.{Held, Stepped, Stepping};
-ghost use Rattle.steps.specs.Ties.{Tied};
-ghost use Rattle.steps.specs.Stacks.{Asked, Planning, Planned, stackOf, both, enough};
+ghost use Rattle.steps.specs.Stacks.{Asked, Planning, PlannedAll, stackOf, both, enough};
 ghost use Rattle.std.specs.declared.option.Option.{Option};
 use super::Ask;
 use super::Doing;
@@ -43,7 +41,8 @@ pub trait Planner {
     // between calls, on drives of a size: which state of the code stands for which memory of the readable layer
     ghost same: { ℕ → Self·State → layer .Mem → Type 0 };
 
-    law planned: { (size : ℕ) → smallest ≤ size → size ≤ largest → Planned code most size layer (same size) };
+    // the code is that layer
+    law planned: { PlannedAll code most layer same };
 
     // Begins to come up: the machine below is up by then.
     fn open(&mut self, size: u64)

@@ -1,10 +1,9 @@
 // A machine in code, and the readable machine that it is tied to.
 ghost use mathlib.Core.Path.{_≡_};
-ghost use Prim.Native.Nat.{ℕ, _≤_};
-ghost use Rattle.drives.specs.Drives.{smallest, largest};
+ghost use Prim.Native.Nat.{ℕ};
 ghost use Rattle.drives.specs.Machines.{Machine, Judge};
 ghost use Rattle.steps.specs.Steps.{Held, Stepped, Stepping};
-ghost use Rattle.steps.specs.Ties.{Tied, CodeKeeps, CodeWithin};
+ghost use Rattle.steps.specs.Ties.{TiedAll, CodeKeeps, CodeWithin};
 use super::Ask;
 use super::Lent;
 
@@ -33,7 +32,8 @@ pub trait Stepper {
     // between calls, on drives of a size: which state of the code stands for which memory of the readable machine
     ghost same: { ℕ → Held Self·State → machine .Mem → Type 0 };
 
-    law tied: { (size : ℕ) → smallest ≤ size → size ≤ largest → Tied code most size machine (same size) };
+    // the code is that machine
+    law tied: { TiedAll code most machine same };
 
     // Begins to come up on drives of a size.
     fn open(&mut self, size: u64)
@@ -60,14 +60,14 @@ pub trait Stepper {
         ensures { λ r. ⌜ r ≡ code .whole (view (now (self .entry))) ⌝ };
 }
 
-// A machine in code, and the judge that it is held to.
-pub trait Judged: Stepper {
-    ghost judge: { ℕ → Judge Self·Call Self·Reply };
+// The judge that a machine in code is held to.
+pub trait Judges<M: Stepper>: Sized {
+    ghost judge: { ℕ → Judge M·Call M·Reply };
 }
 
 // What the readable machine keeps to, the code keeps to.
-pub fn code_keeps<M: Judged>()
-    ensures { λ _. ⌜ CodeKeeps (M·Stepper .code) (M·Stepper .most) (M·Stepper .machine) (M·Judged .judge) ⌝ }
+pub fn code_keeps<M: Stepper, J: Judges<M>>()
+    ensures { λ _. ⌜ CodeKeeps (M·Stepper .code) (M·Stepper .most) (M·Stepper .machine) (J·Judges .judge) ⌝ }
 {}
 
 // The code is as fair as the readable machine, and its stretches are no longer.

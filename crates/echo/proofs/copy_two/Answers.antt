@@ -1,4 +1,3 @@
-use native.Mathlib.Omega.{arith}
 use lib.Dec.{lit≤}
 use Rattle.echo.proofs.copy_two.Needs as need
 
