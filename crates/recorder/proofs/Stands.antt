@@ -71,12 +71,12 @@ module _ (size : ℕ) where
 
 -- THE RECORDER STANDS
 
-recorded-keeps : Keeps register recorded
+pub recorded-keeps : Keeps register recorded
 recorded-keeps =
     let k : KeepsAbove (root.judge timed) register spelling = keeps-above {Off = λ size. Off} {On = λ size. On} (λ size lo hi. spelled size) in
     layers-compose (root.Call Time) (root.Reply Time) Call Reply (root.judge timed) register (root.machine timed) spelling (root-stands timed labels-stand .0) k
 
-recorded-within : Within recorded
+pub recorded-within : Within recorded
 recorded-within = layers-stay-within (root.Call Time) (root.Reply Time) Call Reply (root.machine timed) spelling (root-stands timed labels-stand .1)
 
 pub recorder-stands : RecorderStands
