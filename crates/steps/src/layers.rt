@@ -44,7 +44,7 @@ pub trait Planner {
     // the code is that layer
     law planned: { PlannedAll code most layer same };
 
-    // Begins to come up: the machine below is up by then.
+    // Begins to come up. Its first turn is taken once the machine below is up.
     fn open(&mut self, size: u64)
         ensures { λ _. ⌜ view (now (self .exit)) ≡ code .rising size ⌝ };
 

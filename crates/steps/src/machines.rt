@@ -12,7 +12,7 @@ pub trait Stepper {
 
     type Reply;
 
-    // what its parts say to each other: nothing, where it has none
+    // what its parts say to each other, `()` where it has none: the law of a stack must have all its types at hand
     type Inside;
 
     // what its steps speak of; a struct may hold more, as a bound on a field
