@@ -1,6 +1,11 @@
 // What the house does for each command: it looks at its bays, comes up if it isn't, and answers.
+ghost use mathlib.Core.Path.{_≡_};
+ghost use Rattle.meaning.specs.Rooms.{Tick};
+ghost use Rattle.lines.specs.Means.{means};
 use crate::files::DriveFiles;
+use crate::files::DriveFilesDisks;
 use bays::Drive;
+use bays::DrivePartialEq;
 use bays::Drives;
 use console::push_hex;
 use front::House;
@@ -10,6 +15,8 @@ use recorder::Recorder;
 use recorder::RecorderStepper;
 use std::io;
 use steps::Lent;
+use whole::answer_line;
+use whole::closed_house;
 
 // The fewest drives that anything is asked of: with fewer, a house that is only unplugged might begin anew.
 const FEWEST: usize = 4;
@@ -37,10 +44,16 @@ fn word(d: Drive) -> &'static str {
     }
 }
 
+fn telling(ms: u64) -> Call<'static>
+    ensures { λ r. ⌜ means r ≡ Tick ms ⌝ }
+{
+    Call::Time { ms }
+}
+
 impl Desk {
     pub fn new(longest: usize) -> Desk {
         Desk {
-            house: House::new(Recorder::new(), longest),
+            house: closed_house(longest),
             lent: Lent { bytes: [0; 4096] },
             drives: Drives::new(),
             files: DriveFiles::none(),
@@ -109,7 +122,7 @@ impl Desk {
             return Ok(());
         }
         let mut answer = [0u8; 64];
-        let n = self.house.call(&mut self.lent, &mut self.files, line, &mut answer).unwrap_or(0);
+        let n = answer_line(&mut self.house, &mut self.lent, &mut self.files, line, &mut answer).unwrap_or(0);
         if !self.stands(rt, out)? {
             return Ok(());
         }
@@ -122,7 +135,8 @@ impl Desk {
     // Tells the time, as a line with tag 0 would.
     pub fn tell(&mut self, rt: &LibcRuntime, ms: u64, out: &mut Vec<u8>) -> io::Result<()> {
         let mut line = [0u8; 32];
-        let n = write_call(0, Call::Time { ms }, &mut line).unwrap_or(0);
+        let call = telling(ms);
+        let n = write_call(0, call, &mut line).unwrap_or(0);
         self.call(rt, &line[0..n.min(32)], out)
     }
 

@@ -2,7 +2,6 @@
 mod files;
 mod desk;
 
-use bays::Drives;
 use console::Input;
 use console::Text;
 use console::TextLine;
@@ -49,7 +48,7 @@ fn main(rt: LibcRuntime) -> io::Result<()> {
     let mut desk = Desk::new(LONGEST);
     for _ in 0..u64::MAX {
         let read = text.read(&mut input)?;
-        if read == Text::End {
+        if let Text::End = read {
             break;
         }
         out.clear();
