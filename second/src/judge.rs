@@ -298,8 +298,8 @@ fn without_doubles(houses: Vec<House>) -> Vec<House> {
 /// What each command of a script printed, and how the judge stood after it.
 pub struct Verdict {
     pub tally: Tally,
-    /// The indices of the commands that were cut short (not `cut 0`, which cuts nothing short).
-    pub cut_short: Vec<usize>,
+    /// The indices of the commands that were cut short (not `cut 0`, which cuts nothing short), and the drives then.
+    pub cut_short: Vec<(usize, Drives)>,
     pub wrong: Option<Wrong>,
 }
 
@@ -315,7 +315,7 @@ pub fn judge(built: Built, placed: &[Placed], printed: &[&str]) -> Verdict {
             Ok(Line::Left) => {}
             Ok(Line::Used) => {
                 let short = next == Some("cut") && !matches!(command, Command::Cut { .. } | Command::Status);
-                cut_short.extend(short.then_some(index));
+                cut_short.extend(short.then(|| (index, judge.drives.clone())));
                 at += 1;
             }
             Err(allowed) => {

@@ -35,7 +35,7 @@ pub enum Bug {
     Chatty,
     /// Answers 12 for telling the time.
     Unbuilt,
-    /// A hold lasts one millisecond longer: told times count one less.
+    /// The clock is a millisecond late: holds and spans end too late.
     Slow,
 }
 
@@ -296,7 +296,7 @@ impl Player {
     // ------------------------------------------------------------ doing wrong
 
     fn answer(&mut self, line: &[u8]) -> (House, Vec<u8>) {
-        let told_late = self.bug == Some(Bug::Slow) && line.len() == 17 && line[8] == 14 && line[16] > 0;
+        let told_late = self.bug == Some(Bug::Slow) && line.len() == 17 && line[8] == 14 && line[16] > 1;
         let (after, mut answer) = if told_late {
             let earlier = [&line[..16], &[line[16] - 1]].concat();
             self.ground.answer_line(&self.house, &earlier)
