@@ -232,7 +232,8 @@ impl Maker {
 
     fn make_rooms(&mut self) {
         for name in self.rooms.clone() {
-            let keeps = self.dice.one_in(2);
+            // Only in a room that keeps do many versions come together.
+            let keeps = self.shape == Shape::ManyVersions || self.dice.one_in(2);
             self.emit_call(&Call::MakeRoom { name, keeps });
         }
     }
@@ -246,6 +247,24 @@ impl Maker {
             let name = Bytes::from([b"fill".as_slice(), &filler.to_be_bytes()].concat());
             self.emit_call(&Call::MakeRoom { name, keeps: true });
             filler += 1;
+        }
+        if self.dice.one_in(2) {
+            let left = self.dice.below(5_000);
+            self.fill_with_versions(most.saturating_sub(left));
+        }
+    }
+
+    /// Versions of a byte, then of none, until not even one of none is left room for.
+    fn fill_with_versions(&mut self, most: u64) {
+        for (bytes, weight) in [(&b"x"[..], 18_432), (b"", 2_048)] {
+            for filler in 0..20u8 {
+                if weight::of_house(&self.guess) + weight > most {
+                    break;
+                }
+                let key = Bytes::from([b"fill".as_slice(), bytes, &[filler]].concat());
+                let room = self.rooms[0].clone();
+                self.emit_call(&Call::Put { room, key, expected: Expected::Any, bytes: bytes.into() });
+            }
         }
     }
 
@@ -487,7 +506,7 @@ impl Maker {
         let call = self.some_call();
         let mut line = lines::write_call(self.tag(), &call);
         let last = line.len() as u64 - 1;
-        match self.dice.below(7) {
+        match self.dice.below(8) {
             // At any byte, or at one of the first, where the length, the tag, the kind and the first name are.
             0..=1 => {
                 let at = self.dice.below(last + 1) as usize;
@@ -497,8 +516,9 @@ impl Maker {
                 let at = self.dice.below(14.min(last + 1)) as usize;
                 line[at] = line[at].wrapping_add(*self.dice.pick(&[1, 255, 128]));
             }
-            4 => line.truncate(self.dice.below(last + 1) as usize),
-            5 => line.push(self.dice.roll() as u8),
+            4 => line[8] = *self.dice.pick(&[0, 15, 16, 255]),
+            5 => line.truncate(self.dice.below(last + 1) as usize),
+            6 => line.push(self.dice.roll() as u8),
             _ => {
                 // Shorter or longer, with the length that fits.
                 if self.dice.one_in(2) && line.len() > 9 {
@@ -516,8 +536,28 @@ impl Maker {
     // ------------------------------------------------------------ calls
 
     fn call_step(&mut self) {
-        let call = self.some_call();
+        let call = if self.dice.one_in(2) { self.aimed_call() } else { None };
+        let call = call.unwrap_or_else(|| self.some_call());
         self.emit_call(&call);
+    }
+
+    /// A call right at the bound that the script is about.
+    fn aimed_call(&mut self) -> Option<Call> {
+        let (room, key) = (self.rooms[0].clone(), self.keys[0].clone());
+        let filler = Bytes::from([b"fill".as_slice(), &self.dice.between(250, 260).to_be_bytes()].concat());
+        let latest_or_older = *self.dice.pick(&[0, 0, 0, 0, 1, 2, 3]);
+        let bytes = self.bytes();
+        let call = match (self.shape, self.dice.below(4)) {
+            (Shape::ManyVersions, 0..=1) => Call::Put { room, key, expected: Expected::Any, bytes },
+            (Shape::ManyVersions, _) => Call::Remove { room, key, number: latest_or_older },
+            (Shape::ManyUploads, 0..=2) => Call::Begin { room, key },
+            (Shape::ManyUploads, _) => Call::Abort { room, upload: self.upload().1 },
+            (Shape::ManyRooms, 0..=2) | (Shape::NearlyFull, 0) => Call::MakeRoom { name: filler, keeps: true },
+            (Shape::ManyRooms, _) => Call::DropRoom { name: filler },
+            (Shape::NearlyFull, 1..=2) => Call::Remove { room, key: Bytes::from(*b"fillx\0"), number: 0 },
+            _ => return None,
+        };
+        Some(call)
     }
 
     fn some_call(&mut self) -> Call {
