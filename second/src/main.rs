@@ -118,7 +118,7 @@ fn check(program: Program, time: Duration, folder: &str, scripts: &[&str]) -> Re
         hunt.exhaustive(&text, Limits { places: 200, choices: 6, variants: 1_200, seed: index as u64 })?;
         println!("   {script}: {}", hunt.tally());
     }
-    hunt.seeds(400..4_000)?;
+    hunt.seeds(400..1_000_000)?;
     println!("   {}", hunt.tally());
     Ok(finish(&hunt, true))
 }
