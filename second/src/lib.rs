@@ -28,6 +28,7 @@ pub mod lines;
 pub mod meaning;
 pub mod play;
 pub mod program;
+pub mod real;
 pub mod rules;
 pub mod script;
 pub mod shrink;
