@@ -125,8 +125,7 @@ fn variants(base: &Base, place: &Place, choices: usize, dice: &mut Dice) -> Vec<
         let cut = script::commands(&format!("cut {} {choice}", place.after));
         for losses in place.drives.legal_losses() {
             let lose: Vec<Command> = losses.iter().map(|index| Command::Lose(*index)).collect();
-            let parts: [&[Command]; 6] =
-                [&cut, &place.before, &lose, &base.read_back, &place.rest, &base.read_back];
+            let parts: [&[Command]; 6] = [&cut, &place.before, &lose, &base.read_back, &place.rest, &base.read_back];
             texts.push(base.text(&parts));
             texts.extend(worse(base, place, &cut, &losses, dice));
         }
@@ -160,7 +159,9 @@ fn worse(base: &Base, place: &Place, cut: &[Command], losses: &[usize], dice: &m
 /// All old, all newest, then choices of single sectors and seeds. Bits are written with the digits 0 and 1 only (see docs/REHEARSE.md).
 fn some_choices(dice: &mut Dice, count: usize) -> Vec<String> {
     let mut choices = vec!["0".to_string(), "1".to_string()];
-    for bits in ["1", "10", "100", "1000", "10000", "100000", "11", "110", "11000", "110000", "101010", "10101", "111", "111000"] {
+    for bits in [
+        "1", "10", "100", "1000", "10000", "100000", "11", "110", "11000", "110000", "101010", "10101", "111", "111000",
+    ] {
         choices.push(format!("bits {bits}"));
     }
     choices.extend((0..6).map(|_| dice.between(2, 1_000_000).to_string()));

@@ -95,7 +95,8 @@ fn names(dice: &mut Dice) -> Vec<Bytes> {
         name[length - 1] = last;
         name.into()
     };
-    let short: Vec<Bytes> = [&b"a"[..], b"ab", b"abc", b"b", b"a\0", b"a\xff", b"\0", b"\xff", b"aa"].map(Bytes::from).into();
+    let short: Vec<Bytes> =
+        [&b"a"[..], b"ab", b"abc", b"b", b"a\0", b"a\xff", b"\0", b"\xff", b"aa"].map(Bytes::from).into();
     let longest = [long(b'k', 255), long(b'l', 255), long(b'k', 254)];
     let mut chosen: Vec<Bytes> = (0..dice.between(1, 4)).map(|_| dice.pick(&short).clone()).collect();
     if dice.one_in(3) {
@@ -271,7 +272,8 @@ impl Maker {
     fn many_versions(&mut self) {
         let (room, key) = (self.rooms[0].clone(), self.keys[0].clone());
         for _ in 0..self.dice.between(1_020, 1_025) {
-            let put = Call::Put { room: room.clone(), key: key.clone(), expected: Expected::Any, bytes: Bytes::from([]) };
+            let put =
+                Call::Put { room: room.clone(), key: key.clone(), expected: Expected::Any, bytes: Bytes::from([]) };
             self.emit_call(&put);
         }
     }
@@ -340,8 +342,23 @@ impl Maker {
 
     fn text_step(&mut self) {
         let texts = [
-            "hello", "in", "in 0", "in 0g", "in zz", "IN 00", "Time 5", "time", "time x", "time -1", "time 5x",
-            "time 18446744073709551615", "time 18446744073709551616", "time 99999999999999999999999", "", "   ", "mended",
+            "hello",
+            "in",
+            "in 0",
+            "in 0g",
+            "in zz",
+            "IN 00",
+            "Time 5",
+            "time",
+            "time x",
+            "time -1",
+            "time 5x",
+            "time 18446744073709551615",
+            "time 18446744073709551616",
+            "time 99999999999999999999999",
+            "",
+            "   ",
+            "mended",
         ];
         let text = *self.dice.pick(&texts);
         self.emit_text(text);
@@ -672,7 +689,19 @@ impl Maker {
         let (room, key) = (self.room(), self.key());
         let number = self.number_or_latest(&room, &key);
         let from = *self.dice.pick(&[0, 0, 0, 0, 1, 511, 512, 16_383, 16_384, 1 << 62, u64::MAX]);
-        let most = *self.dice.pick(&[100, 100, 20_000, 20_000, 0, 1, 512, 16_384, BYTES_MOST, BYTES_MOST + 1, u32::MAX as u64]);
+        let most = *self.dice.pick(&[
+            100,
+            100,
+            20_000,
+            20_000,
+            0,
+            1,
+            512,
+            16_384,
+            BYTES_MOST,
+            BYTES_MOST + 1,
+            u32::MAX as u64,
+        ]);
         Call::Get { room, key, number, from, most }
     }
 
@@ -693,7 +722,8 @@ impl Maker {
     /// A room and an upload, mostly one that is there.
     fn upload(&mut self) -> (Bytes, u64) {
         let room = self.room();
-        let numbers: Vec<u64> = self.guess.rooms.get(&room).map_or(vec![], |room| room.uploads.keys().copied().collect());
+        let numbers: Vec<u64> =
+            self.guess.rooms.get(&room).map_or(vec![], |room| room.uploads.keys().copied().collect());
         let number = match numbers.last() {
             Some(_) if self.dice.one_in(15) => self.dice.between(0, self.guess.next),
             Some(last) if self.dice.one_in(2) => *last,
@@ -705,7 +735,8 @@ impl Maker {
 
     fn some_part(&mut self) -> Call {
         let (room, upload) = self.upload();
-        let have = self.guess.rooms.get(&room).and_then(|room| room.uploads.get(&upload)).map_or(0, |u| u.parts.len() as u64);
+        let have =
+            self.guess.rooms.get(&room).and_then(|room| room.uploads.get(&upload)).map_or(0, |u| u.parts.len() as u64);
         let place = match self.dice.below(10) {
             0 => *self.dice.pick(&[0, 10_000, 10_001, 65_535]),
             1..=3 => self.dice.between(1, 4),
@@ -716,7 +747,8 @@ impl Maker {
 
     fn some_complete(&mut self) -> Call {
         let (room, upload) = self.upload();
-        let key = self.guess.rooms.get(&room).and_then(|room| room.uploads.get(&upload)).map(|upload| upload.key.clone());
+        let key =
+            self.guess.rooms.get(&room).and_then(|room| room.uploads.get(&upload)).map(|upload| upload.key.clone());
         let key = key.unwrap_or_else(|| Bytes::from([]));
         Call::Complete { expected: self.expected(&room, &key), room, upload }
     }
@@ -809,7 +841,12 @@ pub fn read_back(built: Built, script_text: &str) -> Vec<String> {
     let named = Named::of(script_text);
     for room in &named.rooms {
         let none = Bytes::from([]);
-        commands.push(Command::call(&Call::Look { room: room.clone(), beginning: none.clone(), after: none, most: 1_000 }));
+        commands.push(Command::call(&Call::Look {
+            room: room.clone(),
+            beginning: none.clone(),
+            after: none,
+            most: 1_000,
+        }));
         for key in &named.keys {
             commands.extend(read_key(built, room, key));
         }

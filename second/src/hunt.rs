@@ -136,7 +136,11 @@ impl Hunt {
         let small = shrink::shrink(text, Instant::now() + SHRINKING, fails);
         self.leave(&format!("{name}.small.script"), &small)?;
         if let Some(failure) = self.program.check(&small)?.failure {
-            println!("made smaller, {} lines: {}/{name}.small.script\n{failure}", small.lines().count(), self.folder.display());
+            println!(
+                "made smaller, {} lines: {}/{name}.small.script\n{failure}",
+                small.lines().count(),
+                self.folder.display()
+            );
         }
         if self.smallest.is_none_or(|lines| small.lines().count() < lines) {
             self.smallest = Some(small.lines().count());

@@ -108,7 +108,9 @@ impl Judge {
         match command {
             Command::Drives(n) => self.set(|ground| ground.sectors = *n),
             Command::Longest(n) => self.set(|ground| ground.longest = *n),
-            Command::In(_) | Command::Time(_) | Command::Text(_) => self.call(&command.line().unwrap_or_default(), next),
+            Command::In(_) | Command::Time(_) | Command::Text(_) => {
+                self.call(&command.line().unwrap_or_default(), next)
+            }
             Command::Mend => self.mend(next),
             Command::MendWhole => self.mend_whole(next),
             Command::Lose(i) => self.lose(*i, next),
@@ -142,8 +144,11 @@ impl Judge {
         }
         let heard = next.and_then(|text| text.strip_prefix("out ")).filter(|text| is_lower_hex(text));
         let heard = heard.and_then(lines::from_hex);
-        let fits: Vec<House> =
-            outcomes.iter().filter(|(_, answer)| Some(answer) == heard.as_ref()).map(|(after, _)| after.clone()).collect();
+        let fits: Vec<House> = outcomes
+            .iter()
+            .filter(|(_, answer)| Some(answer) == heard.as_ref())
+            .map(|(after, _)| after.clone())
+            .collect();
         if fits.is_empty() {
             let answers = outcomes.iter().map(|(_, answer)| format!("out {}", lines::to_hex(answer)));
             return Err(self.or_cut(answers.collect()));
@@ -354,7 +359,9 @@ fn in_words(text: &str) -> String {
     let said = if let Some(digits) = text.strip_prefix("in ") {
         lines::from_hex(digits).map(|bytes| words::show_line(&bytes))
     } else if let Some(digits) = text.strip_prefix("out ") {
-        lines::from_hex(digits).and_then(|bytes| lines::read_answer(&bytes)).map(|(_, answer)| words::show_answer(&answer))
+        lines::from_hex(digits)
+            .and_then(|bytes| lines::read_answer(&bytes))
+            .map(|(_, answer)| words::show_answer(&answer))
     } else {
         None
     };

@@ -94,7 +94,9 @@ impl<'a> Reader<'a> {
             6 => Call::Look { room: self.name()?, beginning: self.name()?, after: self.name()?, most: self.number(2)? },
             7 => Call::Versions { room: self.name()?, key: self.name()? },
             8 => Call::Begin { room: self.name()?, key: self.name()? },
-            9 => Call::Part { room: self.name()?, upload: self.number(8)?, place: self.number(2)?, bytes: self.body()? },
+            9 => {
+                Call::Part { room: self.name()?, upload: self.number(8)?, place: self.number(2)?, bytes: self.body()? }
+            }
             10 => Call::Complete { room: self.name()?, upload: self.number(8)?, expected: self.expected()? },
             11 => Call::Abort { room: self.name()?, upload: self.number(8)? },
             12 => Call::Hold { room: self.name()?, key: self.name()?, number: self.number(8)?, until: self.number(8)? },
@@ -127,7 +129,16 @@ impl<'a> Reader<'a> {
 fn refusal_of(number: u8) -> Option<Refusal> {
     use Refusal::*;
     let all = [
-        OutOfRange, NotThere, ThereAlready, NotAsExpected, NotEmpty, Held, NoPartsOrGap, TooMany, NoTimeTold, NotBuilt,
+        OutOfRange,
+        NotThere,
+        ThereAlready,
+        NotAsExpected,
+        NotEmpty,
+        Held,
+        NoPartsOrGap,
+        TooMany,
+        NoTimeTold,
+        NotBuilt,
     ];
     all.into_iter().find(|refusal| *refusal as u8 == number)
 }

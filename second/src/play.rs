@@ -217,7 +217,7 @@ impl Player {
             return self.power_cut();
         }
         let (after, answer) = self.answer(line);
-        let asked = match (&after == &self.house, lines::read_answer(&answer)) {
+        let asked = match (after == self.house, lines::read_answer(&answer)) {
             (_, Some((_, Answer::TurnedAway(_)))) => [0; 3],
             (true, _) => ASKED_READ,
             (false, _) => ASKED_FULL,

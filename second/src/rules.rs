@@ -50,9 +50,7 @@ fn versions_after(before: &[Version], rule: &Rule, keeps: bool, now: u64) -> Vec
 
 /// Step 1. Counted from the version right above as it stood before this telling, whether or not that one goes now.
 fn older_that_stay(before: &[Version], rule: &Rule, now: u64) -> Vec<Version> {
-    let goes = |above: &Version, version: &Version| {
-        is_due(rule.older_last, above.time, now) && !version.is_held(now)
-    };
+    let goes = |above: &Version, version: &Version| is_due(rule.older_last, above.time, now) && !version.is_held(now);
     before.windows(2).filter(|pair| !goes(&pair[0], &pair[1])).map(|pair| pair[1].clone()).collect()
 }
 

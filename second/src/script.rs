@@ -23,7 +23,10 @@ pub enum Command {
     Status,
     Asked,
     Help,
-    Cut { after: u64, choice: Choice },
+    Cut {
+        after: u64,
+        choice: Choice,
+    },
     /// Any other text: answered as a line of bytes that is no call, with tag 0.
     Text(String),
 }
@@ -45,7 +48,11 @@ pub struct Placed {
 /// Decimal digits and nothing else, below 2^64.
 pub fn number(word: &str) -> Option<u64> {
     let digits = !word.is_empty() && word.bytes().all(|byte| byte.is_ascii_digit());
-    if digits { word.parse().ok() } else { None }
+    if digits {
+        word.parse().ok()
+    } else {
+        None
+    }
 }
 
 fn drive(word: &str) -> Option<usize> {

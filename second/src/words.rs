@@ -87,11 +87,9 @@ pub fn read_call(text: &str) -> Option<Call> {
             place: read_number(place)?,
             bytes: read_bytes(bytes)?,
         },
-        ["complete", room, upload, expected] => Call::Complete {
-            room: read_bytes(room)?,
-            upload: read_number(upload)?,
-            expected: read_expected(expected)?,
-        },
+        ["complete", room, upload, expected] => {
+            Call::Complete { room: read_bytes(room)?, upload: read_number(upload)?, expected: read_expected(expected)? }
+        }
         ["abort", room, upload] => Call::Abort { room: read_bytes(room)?, upload: read_number(upload)? },
         ["hold", room, key, number, until] => Call::Hold {
             room: read_bytes(room)?,

@@ -14,7 +14,16 @@ use second::words;
 fn refusal(number: &str) -> Refusal {
     use Refusal::*;
     let all = [
-        OutOfRange, NotThere, ThereAlready, NotAsExpected, NotEmpty, Held, NoPartsOrGap, TooMany, NoTimeTold, NotBuilt,
+        OutOfRange,
+        NotThere,
+        ThereAlready,
+        NotAsExpected,
+        NotEmpty,
+        Held,
+        NoPartsOrGap,
+        TooMany,
+        NoTimeTold,
+        NotBuilt,
     ];
     *all.iter().find(|refusal| (**refusal as u8).to_string() == number).expect("a refusal")
 }
@@ -321,7 +330,8 @@ fn what_is_played_right_is_the_same() {
 
 /// Each way of doing wrong is found among these many scripts.
 fn is_found(bug: Bug, built: Built, seeds: u64) {
-    let found = (0..seeds).filter(|seed| played(built, Some(bug), &generate::script(built, *seed)).wrong.is_some()).count();
+    let found =
+        (0..seeds).filter(|seed| played(built, Some(bug), &generate::script(built, *seed)).wrong.is_some()).count();
     assert!(found > 0, "{bug:?}");
 }
 

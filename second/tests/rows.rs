@@ -991,6 +991,25 @@ stories! {
     ";
     weight_of_a_rules_mark_on_a_mark_with_a_number: "
         time 1                          | yes
+        make r keeps                    | yes
+        put r a any -                   | number 1
+        remove r a 0                    | number 2
+        put r a any -                   | number 3
+        rules r -:1:0                   | yes
+        time 9                          | yes
+        versions r a                    | list a/0/0 a/3/0 a/2/0 a/1/0
+        weigh                           | 36864
+        remove r a 3                    | yes
+        versions r a                    | list a/0/0 a/2/0 a/1/0
+        weigh                           | 35840
+        remove r a 1                    | yes
+        weigh                           | 34816
+        remove r a 2                    | yes
+        versions r a                    | list a/0/0
+        weigh                           | 34816
+    ";
+    a_room_that_doesnt_keep_loses_its_rules_mark_by_a_put: "
+        time 1                          | yes
         make r forgets                  | yes
         put r a any -                   | number 1
         hold r a 1 50                   | yes
@@ -1001,6 +1020,8 @@ stories! {
         time 9                          | yes
         versions r a                    | list a/0/0 a/1/0
         weigh                           | 34816
+        put r a any -                   | number 4
+        versions r a                    | list a/4/0 a/1/0
     ";
     weight_of_uploads_and_parts: "
         time 1                          | yes
