@@ -10,7 +10,7 @@ use crate::program::{Checked, Program};
 use crate::shrink;
 
 /// How long a failing script is made smaller.
-const SHRINKING: Duration = Duration::from_secs(60);
+const SHRINKING: Duration = Duration::from_secs(30);
 /// After so many failures the rest wouldn't say more.
 const FAILURES_MOST: u64 = 5;
 /// How often the progress is shown.
@@ -32,7 +32,7 @@ pub struct Hunt {
 impl Hunt {
     pub fn new(program: Program, time: Duration, folder: &Path) -> Hunt {
         let now = Instant::now();
-        Hunt {
+        let hunt = Hunt {
             program,
             tally: Tally::default(),
             failed: 0,
@@ -41,7 +41,9 @@ impl Hunt {
             shown: now,
             folder: folder.to_path_buf(),
             smallest: None,
-        }
+        };
+        hunt.forget_earlier();
+        hunt
     }
 
     pub fn tally(&self) -> &Tally {
@@ -52,7 +54,19 @@ impl Hunt {
         self.tally.scripts.saturating_sub(self.failed)
     }
 
-    fn goes_on(&self) -> bool {
+    /// What an earlier hunt left would be taken for what this one found.
+    fn forget_earlier(&self) {
+        let Ok(files) = std::fs::read_dir(&self.folder) else { return };
+        for file in files.flatten() {
+            let name = file.file_name().to_string_lossy().into_owned();
+            if name.starts_with("failing-") || name == "smallest.script" {
+                // One that can't be removed is written over, or is seen to be old by its date.
+                let _ = std::fs::remove_file(file.path());
+            }
+        }
+    }
+
+    pub fn goes_on(&self) -> bool {
         Instant::now() < self.until && self.failed < FAILURES_MOST
     }
 
@@ -128,6 +142,10 @@ impl Hunt {
         let Some(failure) = checked.failure else { return Ok(()) };
         self.failed += 1;
         println!("FAILED\n{failure}");
+        // The first few say enough, and making scripts smaller takes time.
+        if self.failed > FAILURES_MOST {
+            return Ok(());
+        }
         let name = format!("failing-{}", self.failed);
         self.leave(&format!("{name}.script"), text)?;
         self.leave(&format!("{name}.printed"), &checked.printed)?;

@@ -114,6 +114,9 @@ fn check(program: Program, time: Duration, folder: &str, scripts: &[&str]) -> Re
     // A first helping of seeds, so that no script is so long that they don't come.
     hunt.seeds(1..400)?;
     for (index, script) in scripts.iter().enumerate() {
+        if !hunt.goes_on() {
+            break;
+        }
         let text = from_words(&read_file(script)?);
         hunt.exhaustive(&text, Limits { places: 200, choices: 6, variants: 1_200, seed: index as u64 })?;
         println!("   {script}: {}", hunt.tally());
