@@ -14,6 +14,7 @@ use Rattle.std.proofs.shelf.Equals.{sameBytes-decides}
 use Rattle.root.specs.Root.{empty, committed, Label, missing, blank, rebuilding, has, Codec, Lawful}
 use Rattle.root.specs.Labels.{isBlock, Block, labels}
 use Rattle.root.proofs.Labels.{labels-lawful}
+use Rattle.root.proofs.Root.{root-stands}
 use Rattle.labels.specs.Restricted.{Part, LawfulPart, widened, narrowed, restricted}
 use Rattle.labels.specs.Times.{Time, timeOf, eight, number, payloadOf, payload-is-block, timeIn, times, timed, LabelsStand}
 
@@ -103,5 +104,8 @@ times-lawful = record { there = there; back = back }
             same-block (times .into t) w (ap (λ x. payloadOf (x .ms)) (sym i) ∙ sym (sameBytes-decides _ _ .0 h))
         go false h e = absurd (apart (cc))
 
+pub timed-lawful : Lawful timed
+timed-lawful = restricted-lawful labels Time (timeOf 0) times labels-lawful times-lawful
+
 pub labels-stand : LabelsStand
-labels-stand = restricted-lawful labels Time (timeOf 0) times labels-lawful times-lawful
+labels-stand = (timed-lawful, root-stands timed timed-lawful)

@@ -114,6 +114,6 @@ recordAs (root.committed t) = kind.Committed (record { time = t .ms })
 abbrev pub labelBytes : Record → List ℕ
 labelBytes r = timed .encode (root.has (recordFor r))
 
--- these labels are right
+-- these labels are right, and with them the root record stands
 abbrev pub LabelsStand : Type 0
-LabelsStand = root.Lawful timed
+LabelsStand = root.Lawful timed × root.RootStands timed

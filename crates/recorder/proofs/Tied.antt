@@ -24,7 +24,8 @@ use Rattle.labels.specs.declared.Label.{Label}
 use Rattle.labels.specs.declared.Record.{Record}
 use Rattle.labels.specs.declared.Record.the-variants.{Empty, Committed}
 use Rattle.labels.specs.Times.{Time, timeOf, timed, labelOf, labelIn, labelBytes, trusts, recordFor, recordAs}
-use Rattle.labels.proofs.Lawful.{time-of, labels-stand}
+use Rattle.labels.proofs.Lawful.{time-of, timed-lawful}
+use Rattle.labels.proofs.Shows.{trust-is}
 use Rattle.mending.specs.Stretches.{lacks}
 use Rattle.steps.specs.Steps.{Held, Stepped, unused, Ample, placed, first}
 use Rattle.steps.specs.Ties.{Goes, Tied}
@@ -39,17 +40,6 @@ use Rattle.recorder.specs.declared.Recorder.{Recorder}
 use Rattle.recorder.specs.Recording.{moved, decided, lowestIn, getsAtFirst, goes, startsOn, payloadIn, saidBy, replyAs, recorderCode, recorded, recorderSame}
 
 -- WHAT A SECTOR SHOWS IS WHAT THE MACHINE SEES IN IT
-
-trust-of : (o : Option (root.Label Time)) → trusts (labelOf o) ≡ root.isThere (root.recordOf o)
-trust-of none = refl
-trust-of (some root.missing) = refl
-trust-of (some root.blank) = refl
-trust-of (some root.rebuilding) = refl
-trust-of (some (root.has root.empty)) = refl
-trust-of (some (root.has (root.committed t))) = refl
-
-trust-is : (b : List ℕ) → trusts (labelIn b) ≡ root.trusted timed b
-trust-is b = trust-of (timed .decode b)
 
 -- what is committed, as a record
 abbrev found : Option Time → Record
@@ -77,7 +67,7 @@ bytes-are : (m : root.Record Time) → labelBytes (recordAs m) ≡ timed .encode
 bytes-are m = ap (λ x. timed .encode (root.has x)) (again-is m)
 
 record-long : (m : root.Record Time) → length (timed .encode (root.has m)) ≡ 512
-record-long m = elim (labels-stand .whole (root.has m)) [ inl e ↦ absurd (let z : _≡_ {A = ℕ} 0 1 = cc in omega arith) | inr e ↦ e ]
+record-long m = elim (timed-lawful .whole (root.has m)) [ inl e ↦ absurd (let z : _≡_ {A = ℕ} 0 1 = cc in omega arith) | inr e ↦ e ]
 
 -- LOOPS
 

@@ -36,4 +36,6 @@ returns c =
     let h : length (c .args .seen) ≡ 6 = omega arith in
     let a = c .loop-i .inv .0 ∙ ap (marked lacks (c .args .seen) 6) e ∙ marked-all lacks (c .args .seen) 6 h in
     let b = c .loop-i .inv .1 ∙ ap (λ k. 12 + many (map lacks (take k (c .args .seen)))) e ∙ ap (λ l. 12 + many (map lacks l)) (take-all 6 (c .args .seen) (omega arith)) in
-    ap {B = Stretch} (λ l. record { fills = l; asks = c .loop-i .asks }) a ∙ ap {B = Stretch} (λ k. record { fills = map lacks (c .args .seen); asks = k }) b
+    record {
+      is = ap {B = Stretch} (λ l. record { fills = l; asks = c .loop-i .asks }) a ∙ ap {B = Stretch} (λ k. record { fills = map lacks (c .args .seen); asks = k }) b;
+      short = omega (arith, c .loop-i .inv .2) }
