@@ -58,7 +58,8 @@ restricted-lawful K V first p k h =
       whole = λ l. elim (k .whole (widened p l)) [ inl e ↦ inl (wide-missing h l e) | inr e ↦ inr e ];
       bytes = λ l. k .bytes (widened p l);
       there = λ l. ap (narrowed p) (k .there (widened p l)) ∙ narrow-there h l;
-      back = λ b l e. k .back b (widened p l) (narrow-back h (K .decode b) l e) }
+      back = λ b l e. k .back b (widened p l) (narrow-back h (K .decode b) l e);
+    }
 
 -- TIMES ARE SUCH A PART OF THE PAYLOADS
 
@@ -95,6 +96,7 @@ times-lawful = record { there = there; back = back }
         let e = number-time t in
         let s : sameBytes (payloadOf (t .ms)) (payloadOf (timeOf (number 0 (payloadOf (t .ms))) .ms)) ≡ true = sameBytes-decides _ _ .1 (ap (λ x. payloadOf (x .ms)) (sym e)) in
         ap (λ v. cond v (some (timeOf (number 0 (payloadOf (t .ms))))) none) s ∙ ap some e
+
     back : (w : Block) (t : Time) → timeIn (w .bytes) ≡ some t → times .into t ≡ w
     back w t = go (sameBytes (w .bytes) (payloadOf (timeOf (number 0 (w .bytes)) .ms))) refl
       where

@@ -95,6 +95,7 @@ shows-foreign b n i k h₁ h₂ h₃ h₄ = shows-none b no
   where
     not-same : (c : List ℕ) → sameBytes b c ≡ false → c ≡ b → ⊥
     not-same c h e = let g : sameBytes b c ≡ true = sameBytes-decides b c .1 (sym e) in apart (cc)
+
     no : (l : Label Time) → timed .encode l ≡ b → ⊥
     no missing e = k (ap length (sym e))
     no blank e = not-same (zeros 512) h₁ e

@@ -79,24 +79,24 @@ sees i l r = record { drives = noted (r .drives) i l; gets = r .gets; current = 
 abbrev pub readOn : ℕ → Recorder → Lent → Label → Stepped Recorder
 readOn i r lent l =
     cond (eqb i 0)
-      (goes (decided (r .task) (sees i l r)) lent Again)
-      (goes (moved (Reading (i - 1)) (sees i l r)) lent (Read (i - 1) 0))
+    (goes (decided (r .task) (sees i l r)) lent Again)
+    (goes (moved (Reading (i - 1)) (sees i l r)) lent (Read (i - 1) 0))
 
 -- the drives below n are still to be written to
 abbrev pub writeOn : ℕ → Recorder → Lent → Stepped Recorder
 writeOn n r lent =
     cond (eqb n 0)
-      (goes (moved (Syncing 6) r) lent Again)
-      (cond (getD (r .gets) (n - 1) false)
-        (goes (moved (Writing (n - 1)) r) (placed 0 (labelBytes (r .current)) lent) (Write (n - 1) 0 0))
-        (goes (moved (Writing (n - 1)) r) lent Again))
+    (goes (moved (Syncing 6) r) lent Again)
+    (cond (getD (r .gets) (n - 1) false)
+    (goes (moved (Writing (n - 1)) r) (placed 0 (labelBytes (r .current)) lent) (Write (n - 1) 0 0))
+    (goes (moved (Writing (n - 1)) r) lent Again))
 
 -- the drives below n are still to be synced
 abbrev pub syncOn : ℕ → Recorder → Lent → Stepped Recorder
 syncOn n r lent =
     cond (eqb n 0)
-      (goes (moved Over r) lent Done)
-      (goes (moved (Syncing (n - 1)) r) lent (Sync (n - 1)))
+    (goes (moved Over r) lent Done)
+    (goes (moved (Syncing (n - 1)) r) lent (Sync (n - 1)))
 
 abbrev pub stepIn : Phase → Recorder → Lent → List ℕ → Stepped Recorder
 stepIn Begun r lent got = readAll r lent
@@ -130,7 +130,8 @@ recorderCode =
       starts = startsOn;
       mending = λ r. record { drives = r .drives; gets = r .gets; current = r .current; task = Mends; phase = Begun };
       says = λ r. saidBy (r .task) (r .current);
-      whole = λ r. true }
+      whole = λ r. true;
+    }
 
 -- THE MACHINE, to be read: the root record, with the calls of a register
 

@@ -4,7 +4,6 @@ ghost use mathlib.Core.Bool.{false};
 ghost use mathlib.Core.List.{map};
 ghost use lib.ListN.{getD};
 ghost use Rattle.labels.specs.Times.{trusts};
-
 ghost use Rattle.steps.specs.declared.Lent.{Lent};
 ghost use Rattle.register.specs.Register.{register};
 ghost use Rattle.recorder.specs.Recording.{lowestIn, getsAtFirst, noted, decided, goes, readAll, readOn, writeOn, syncOn, payloadIn, fresh, budget, recorderCode, recorded, recorderSame, RecorderStands};
@@ -129,7 +128,13 @@ impl Recorder {
     {
         let seen = [Label::Missing; 6];
         let gets = [false; 6];
-        Recorder { drives: Drives { seen }, gets, current: Record::Empty, task: Task::Opens, phase: Phase::Begun }
+        Recorder {
+            drives: Drives { seen },
+            gets,
+            current: Record::Empty,
+            task: Task::Opens,
+            phase: Phase::Begun,
+        }
     }
 
     // What all labels come to: which record is written, and to which drives.
@@ -164,7 +169,10 @@ impl Recorder {
         let seen = [Label::Missing; 6];
         self.drives = Drives { seen };
         self.phase = Phase::Reading { drive: 5 };
-        Ask::Read { drive: 5, sector: 0 }
+        Ask::Read {
+            drive: 5,
+            sector: 0,
+        }
     }
 
     // Drive i has shown a label: the next one is read, or it is decided what to write.
@@ -177,7 +185,10 @@ impl Recorder {
             Ask::Again
         } else {
             self.phase = Phase::Reading { drive: i - 1 };
-            Ask::Read { drive: i - 1, sector: 0 }
+            Ask::Read {
+                drive: i - 1,
+                sector: 0,
+            }
         }
     }
 
@@ -193,7 +204,11 @@ impl Recorder {
         self.phase = Phase::Writing { left: i };
         if is_marked(&self.gets, i) {
             lent.place(0, &write_label(self.current));
-            Ask::Write { drive: i, sector: 0, at: 0 }
+            Ask::Write {
+                drive: i,
+                sector: 0,
+                at: 0,
+            }
         } else {
             Ask::Again
         }
@@ -215,8 +230,11 @@ impl Recorder {
 
 pub impl Stepper for Recorder as RecorderStepper {
     type Call = Call;
+
     type Reply = Reply;
+
     type Inside = ();
+
     type State = Recorder;
 
     ghost view = { λ r. r };

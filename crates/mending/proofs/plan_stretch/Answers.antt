@@ -18,17 +18,20 @@ add-asks c = omega arith
 pub loop-i-again : need.loop-i-again
 loop-i-again c =
     let h : c .loop-i .i < length (c .args .seen) = omega arith in
-    elim (c .if-not-is-trusted .came)
-      [ then-not-is-trusted w ↦
-          (let t : lacks (getD (c .args .seen) (c .loop-i .i) Missing) ≡ true = ap not (sym (w .if-not-is-trusted .ensures tt)) in
-           (w .fills-is ∙ ap (λ l. set l (c .loop-i .i) true) (c .loop-i .inv .0) ∙ marks lacks Missing (c .args .seen) 6 (c .loop-i .i) h (omega arith) t,
+    elim (c .if-not-is-trusted .came) [
+      | then-not-is-trusted w ↦
+          (let t : lacks (getD (c .args .seen) (c .loop-i .i) Missing) ≡ true = ap not (sym (w .if-not-is-trusted .ensures tt)) in (
+            w .fills-is ∙ ap (λ l. set l (c .loop-i .i) true) (c .loop-i .inv .0) ∙ marks lacks Missing (c .args .seen) 6 (c .loop-i .i) h (omega arith) t,
             omega (arith, w .asks-is, c .loop-i .inv .1, counts lacks Missing (c .args .seen) (c .loop-i .i) true h t),
-            omega (arith, w .asks-is, c .loop-i .inv .2)))
+            omega (arith, w .asks-is, c .loop-i .inv .2),
+          ))
       | else-not-is-trusted w ↦
-          (let t : lacks (getD (c .args .seen) (c .loop-i .i) Missing) ≡ false = ap not (sym (w .if-not-is-trusted .ensures tt)) in
-           (w .fills-is ∙ c .loop-i .inv .0 ∙ leaves lacks Missing (c .args .seen) 6 (c .loop-i .i) h (omega arith) t,
+          (let t : lacks (getD (c .args .seen) (c .loop-i .i) Missing) ≡ false = ap not (sym (w .if-not-is-trusted .ensures tt)) in (
+            w .fills-is ∙ c .loop-i .inv .0 ∙ leaves lacks Missing (c .args .seen) 6 (c .loop-i .i) h (omega arith) t,
             omega (arith, w .asks-is, c .loop-i .inv .1, counts lacks Missing (c .args .seen) (c .loop-i .i) false h t),
-            omega (arith, w .asks-is, c .loop-i .inv .2))) ]
+            omega (arith, w .asks-is, c .loop-i .inv .2),
+          ))
+    ]
 
 pub returns : need.returns
 returns c =
@@ -38,4 +41,5 @@ returns c =
     let b = c .loop-i .inv .1 ∙ ap (λ k. 12 + many (map lacks (take k (c .args .seen)))) e ∙ ap (λ l. 12 + many (map lacks l)) (take-all 6 (c .args .seen) (omega arith)) in
     record {
       is = ap {B = Stretch} (λ l. record { fills = l; asks = c .loop-i .asks }) a ∙ ap {B = Stretch} (λ k. record { fills = map lacks (c .args .seen); asks = k }) b;
-      short = omega (arith, c .loop-i .inv .2) }
+      short = omega (arith, c .loop-i .inv .2);
+    }
