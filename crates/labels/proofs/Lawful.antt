@@ -1,11 +1,10 @@
 -- A restricted codec is lawful, and with it the labels that have a time.
 -- Assumes nothing.
 use mathlib.Core.Path.{_≡_, refl, sym, _∙_, ap, subst}
-use mathlib.Core.Logic.{_⊎_, inl, inr}
+use mathlib.Core.Logic.{inl, inr}
 use mathlib.Core.Bool.{Bool, true, false, cond}
 use mathlib.Core.Option.{Option, none, some, Option·map}
-use mathlib.Core.List.{List}
-use Prim.Native.Nat.{ℕ, _%_, _<_}
+use Prim.Native.Nat.{ℕ, _<_}
 use native.Mathlib.Nat.{mod-eq-of-lt}
 use native.Mathlib.Omega.{arith}
 use lib.Dec.{T, ltb, ltb→lt}
@@ -16,7 +15,7 @@ use Rattle.root.specs.Labels.{isBlock, Block, labels}
 use Rattle.root.proofs.Labels.{labels-lawful}
 use Rattle.root.proofs.Root.{root-stands}
 use Rattle.labels.specs.Restricted.{Part, LawfulPart, widened, narrowed, restricted}
-use Rattle.labels.specs.Times.{Time, timeOf, eight, number, payloadOf, payload-is-block, timeIn, times, timed, LabelsStand}
+use Rattle.labels.specs.Times.{Time, timeOf, eight, number, payloadOf, timeIn, times, timed, LabelsStand}
 
 apart : _≡_ {A = ℕ} 0 1 → ⊥
 apart z = omega arith

@@ -9,7 +9,6 @@ use lib.Dec.{T, ltb, lt→ltb, lit<}
 use lib.ListN.{getD}
 use Rattle.std.specs.shelf.Text.{sameBytes}
 use Rattle.drives.specs.Drives.{zeros, allBytes}
-use Rattle.register.specs.declared.Payload.{Payload}
 use Rattle.root.specs.Root as root
 use Rattle.root.specs.Labels.{isBlock, Block, labels}
 use Rattle.labels.specs.Restricted.{Part, restricted}

@@ -1,11 +1,11 @@
 -- The code of the root record is the machine to be read, request by request.
 -- Assumes nothing.
-use mathlib.Core.Path.{_≡_, refl, sym, _∙_, ap, subst, subst⁻¹}
-use mathlib.Core.Logic.{_⊎_, inl, inr}
+use mathlib.Core.Path.{_≡_, refl, _∙_, ap, subst, subst⁻¹}
+use mathlib.Core.Logic.{inl, inr}
 use mathlib.Core.Bool.{Bool, true, false, cond, not}
 use mathlib.Core.Option.{Option, none, some}
 use mathlib.Core.List.{List, [], _∷_, map}
-use Prim.Native.Nat.{ℕ, zero, suc}
+use Prim.Native.Nat.{ℕ, suc}
 use native.Mathlib.Omega.{arith}
 use lib.ListN.{length, getD}
 use Rattle.drives.specs.Drives.{put, Io, answer, write, then'}
@@ -30,11 +30,11 @@ use Rattle.mending.specs.Stretches.{lacks}
 use Rattle.steps.specs.Steps.{Held, Stepped, unused, Ample, placed, first}
 use Rattle.steps.specs.Ties.{Goes, Tied}
 use Rattle.steps.specs.declared.Lent.{Lent}
-use Rattle.steps.specs.declared.Ask.the-variants.{Read, Write, Sync, Again, Done}
+use Rattle.steps.specs.declared.Ask.the-variants.{Write, Again, Done}
 use Rattle.steps.proofs.Does.{Does, answers, reads, writes, syncs, again, follows}
 use Rattle.steps.proofs.Lents.{unused-ample, placed-ample, sector-placed}
 use Rattle.recorder.specs.declared.Task.{Task}
-use Rattle.recorder.specs.declared.Task.the-variants.{Opens, Sets, Gets, Mends}
+use Rattle.recorder.specs.declared.Task.the-variants.{Opens, Sets, Mends}
 use Rattle.recorder.specs.declared.Phase.the-variants.{Begun, Reading, Writing, Syncing, Over}
 use Rattle.recorder.specs.declared.Recorder.{Recorder}
 use Rattle.recorder.specs.Recording.{moved, decided, lowestIn, getsAtFirst, goes, startsOn, payloadIn, saidBy, replyAs, recorderCode, recorded, recorderSame}

@@ -6,7 +6,7 @@ use lib.ListN.{length, getD, take, set}
 use mathlib.Core.List.{map}
 use Rattle.std.proofs.shelf.Lists.{take-all}
 use Rattle.labels.specs.declared.Label.the-variants.{Missing}
-use Rattle.mending.specs.Stretches.{lacks, many, stretchOf}
+use Rattle.mending.specs.Stretches.{lacks, many}
 use Rattle.mending.specs.declared.Stretch.{Stretch}
 use Rattle.mending.proofs.Marks.{marked, marks, leaves, counts, marked-all}
 use Rattle.mending.proofs.plan_stretch.Needs as need
