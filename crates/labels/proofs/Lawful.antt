@@ -1,11 +1,10 @@
 -- A restricted codec is lawful, and with it the labels that have a time.
 -- Assumes nothing.
 use mathlib.Core.Path.{_≡_, refl, sym, _∙_, ap, subst}
-use mathlib.Core.Logic.{_⊎_, inl, inr}
+use mathlib.Core.Logic.{inl, inr}
 use mathlib.Core.Bool.{Bool, true, false, cond}
 use mathlib.Core.Option.{Option, none, some, Option·map}
-use mathlib.Core.List.{List}
-use Prim.Native.Nat.{ℕ, _%_, _<_}
+use Prim.Native.Nat.{ℕ, _<_}
 use native.Mathlib.Nat.{mod-eq-of-lt}
 use native.Mathlib.Omega.{arith}
 use lib.Dec.{T, ltb, ltb→lt}
@@ -14,8 +13,9 @@ use Rattle.std.proofs.shelf.Equals.{sameBytes-decides}
 use Rattle.root.specs.Root.{empty, committed, Label, missing, blank, rebuilding, has, Codec, Lawful}
 use Rattle.root.specs.Labels.{isBlock, Block, labels}
 use Rattle.root.proofs.Labels.{labels-lawful}
+use Rattle.root.proofs.Root.{root-stands}
 use Rattle.labels.specs.Restricted.{Part, LawfulPart, widened, narrowed, restricted}
-use Rattle.labels.specs.Times.{Time, timeOf, eight, number, payloadOf, payload-is-block, timeIn, times, timed, LabelsStand}
+use Rattle.labels.specs.Times.{Time, timeOf, eight, number, payloadOf, timeIn, times, timed, LabelsStand}
 
 apart : _≡_ {A = ℕ} 0 1 → ⊥
 apart z = omega arith
@@ -57,7 +57,8 @@ restricted-lawful K V first p k h =
       whole = λ l. elim (k .whole (widened p l)) [ inl e ↦ inl (wide-missing h l e) | inr e ↦ inr e ];
       bytes = λ l. k .bytes (widened p l);
       there = λ l. ap (narrowed p) (k .there (widened p l)) ∙ narrow-there h l;
-      back = λ b l e. k .back b (widened p l) (narrow-back h (K .decode b) l e) }
+      back = λ b l e. k .back b (widened p l) (narrow-back h (K .decode b) l e);
+    }
 
 -- TIMES ARE SUCH A PART OF THE PAYLOADS
 
@@ -94,6 +95,7 @@ times-lawful = record { there = there; back = back }
         let e = number-time t in
         let s : sameBytes (payloadOf (t .ms)) (payloadOf (timeOf (number 0 (payloadOf (t .ms))) .ms)) ≡ true = sameBytes-decides _ _ .1 (ap (λ x. payloadOf (x .ms)) (sym e)) in
         ap (λ v. cond v (some (timeOf (number 0 (payloadOf (t .ms))))) none) s ∙ ap some e
+
     back : (w : Block) (t : Time) → timeIn (w .bytes) ≡ some t → times .into t ≡ w
     back w t = go (sameBytes (w .bytes) (payloadOf (timeOf (number 0 (w .bytes)) .ms))) refl
       where
@@ -103,5 +105,8 @@ times-lawful = record { there = there; back = back }
             same-block (times .into t) w (ap (λ x. payloadOf (x .ms)) (sym i) ∙ sym (sameBytes-decides _ _ .0 h))
         go false h e = absurd (apart (cc))
 
+pub timed-lawful : Lawful timed
+timed-lawful = restricted-lawful labels Time (timeOf 0) times labels-lawful times-lawful
+
 pub labels-stand : LabelsStand
-labels-stand = restricted-lawful labels Time (timeOf 0) times labels-lawful times-lawful
+labels-stand = (timed-lawful, root-stands timed timed-lawful)

@@ -1,8 +1,8 @@
 -- What a sector shows is what its tests say: a sector is a label only if it is what that label is written as.
 -- Assumes nothing.
-use mathlib.Core.Path.{_≡_, refl, sym, _∙_, ap, subst}
-use mathlib.Core.Logic.{_⊎_, inl, inr}
-use mathlib.Core.Bool.{Bool, true, false, cond}
+use mathlib.Core.Path.{_≡_, refl, sym, _∙_, ap}
+use mathlib.Core.Logic.{inl, inr}
+use mathlib.Core.Bool.{true, false}
 use mathlib.Core.Option.{Option, none, some}
 use mathlib.Core.List.{List, [], _∷_}
 use Prim.Native.Nat.{ℕ, _<_}
@@ -12,17 +12,17 @@ use lib.ListN.{length}
 use Rattle.std.specs.shelf.Text.{sameBytes}
 use Rattle.std.proofs.shelf.Equals.{sameBytes-decides}
 use Rattle.drives.specs.Drives.{zeros}
-use Rattle.root.specs.Root.{Label, missing, blank, rebuilding, has, empty, committed}
+use Rattle.root.specs.Root.{Label, missing, blank, rebuilding, has, empty, committed, recordOf, isThere, trusted}
 use Rattle.root.specs.Labels.{sector, encode}
-use Rattle.labels.specs.Times.{Time, timeOf, number, payloadOf, timed, labelOf, labelIn, labelBytes}
+use Rattle.labels.specs.Times.{Time, timeOf, number, payloadOf, timed, labelOf, labelIn, labelBytes, trusts}
 use Rattle.register.specs.declared.Payload.{Payload}
 use Rattle.labels.specs.declared.Label.the-variants.{Committed}
 use Rattle.labels.specs.declared.Record.the-variants as kind
-use Rattle.labels.proofs.Lawful.{number-is, labels-stand}
+use Rattle.labels.proofs.Lawful.{number-is, timed-lawful}
 
 -- what is written of a label shows that label
 pub shows : (b : List ℕ) (l : Label Time) → b ≡ timed .encode l → labelIn b ≡ labelOf (some l)
-shows b l e = ap labelOf (ap (timed .decode) e ∙ labels-stand .there l)
+shows b l e = ap labelOf (ap (timed .decode) e ∙ timed-lawful .there l)
 
 payload-none : payloadOf 0 ≡ zeros 480
 unfolding zeros
@@ -67,7 +67,7 @@ shows-none b h = go (timed .decode b) refl
   where
     go : (o : Option (Label Time)) → timed .decode b ≡ o → labelOf o ≡ labelOf none
     go none e = refl
-    go (some l) e = absurd (h l (labels-stand .back b l e))
+    go (some l) e = absurd (h l (timed-lawful .back b l e))
 
 pub shows-missing : (b : List ℕ) → length b ≡ 0 → labelIn b ≡ labelOf (some missing)
 unfolding encode
@@ -79,7 +79,7 @@ shows-missing b h = shows b missing (no-bytes b h)
 
 pub shows-short : (b : List ℕ) → (length b ≡ 0 → ⊥) → length b < 24 → labelIn b ≡ labelOf none
 unfolding encode
-shows-short b k h = shows-none b (λ l e. elim (labels-stand .whole l) [ inl m ↦ k (ap length (sym (sym (ap (timed .encode) m) ∙ e))) | inr m ↦ let n = ap length e in omega (arith, m, n, h) ])
+shows-short b k h = shows-none b (λ l e. elim (timed-lawful .whole l) [ inl m ↦ k (ap length (sym (sym (ap (timed .encode) m) ∙ e))) | inr m ↦ let n = ap length e in omega (arith, m, n, h) ])
 
 pub shows-foreign :
     (b : List ℕ) (n : ℕ) →
@@ -95,6 +95,7 @@ shows-foreign b n i k h₁ h₂ h₃ h₄ = shows-none b no
   where
     not-same : (c : List ℕ) → sameBytes b c ≡ false → c ≡ b → ⊥
     not-same c h e = let g : sameBytes b c ≡ true = sameBytes-decides b c .1 (sym e) in apart (cc)
+
     no : (l : Label Time) → timed .encode l ≡ b → ⊥
     no missing e = k (ap length (sym e))
     no blank e = not-same (zeros 512) h₁ e
@@ -103,3 +104,15 @@ shows-foreign b n i k h₁ h₂ h₃ h₄ = shows-none b no
     no (has (committed t)) e =
         let j : t .ms ≡ n = sym (i ∙ ap (number 16) (sym e) ∙ number-at t ∙ number-is t) in
         not-same (sector 2 (payloadOf n)) h₄ (ap (λ m. sector 2 (payloadOf m)) (sym j) ∙ e)
+
+trust-of : (o : Option (Label Time)) → trusts (labelOf o) ≡ isThere (recordOf o)
+trust-of none = refl
+trust-of (some missing) = refl
+trust-of (some blank) = refl
+trust-of (some rebuilding) = refl
+trust-of (some (has empty)) = refl
+trust-of (some (has (committed t))) = refl
+
+-- the code trusts the drives that the machine trusts
+pub trust-is : (b : List ℕ) → trusts (labelIn b) ≡ trusted timed b
+trust-is b = trust-of (timed .decode b)

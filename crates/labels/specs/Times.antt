@@ -9,7 +9,6 @@ use lib.Dec.{T, ltb, lt→ltb, lit<}
 use lib.ListN.{getD}
 use Rattle.std.specs.shelf.Text.{sameBytes}
 use Rattle.drives.specs.Drives.{zeros, allBytes}
-use Rattle.register.specs.declared.Payload.{Payload}
 use Rattle.root.specs.Root as root
 use Rattle.root.specs.Labels.{isBlock, Block, labels}
 use Rattle.labels.specs.Restricted.{Part, restricted}
@@ -114,6 +113,6 @@ recordAs (root.committed t) = kind.Committed (record { time = t .ms })
 abbrev pub labelBytes : Record → List ℕ
 labelBytes r = timed .encode (root.has (recordFor r))
 
--- these labels are right
+-- these labels are right, and with them the root record stands
 abbrev pub LabelsStand : Type 0
-LabelsStand = root.Lawful timed
+LabelsStand = root.Lawful timed × root.RootStands timed

@@ -110,7 +110,7 @@ pub fn write_label(r: Record) -> [u8; 512]
     }
 }
 
-// What is written is read back, and nothing else is a label.
+// What is written is read back, nothing else is a label, and with these labels the root record stands.
 pub fn labels_stand()
     ensures { λ _. ⌜ LabelsStand ⌝ }
 {}

@@ -1,6 +1,7 @@
 // What a stretch of mending does: which drives get the current record.
 ghost use mathlib.Core.Path.{_≡_};
-ghost use Rattle.mending.specs.Stretches.{stretchOf};
+ghost use Prim.Native.Nat.{_≤_};
+ghost use Rattle.mending.specs.Stretches.{stretchOf, StretchAsks};
 use labels::Label;
 use labels::is_trusted;
 
@@ -13,7 +14,8 @@ pub struct Stretch {
 
 // A drive that shows no record lacks it, and gets it. A drive that shows one has the current record already.
 pub fn plan_stretch(seen: [Label; 6]) -> Stretch
-    ensures { λ r. ⌜ r ≡ stretchOf seen ⌝ }
+    ensures is { λ r. ⌜ r ≡ stretchOf seen ⌝ }
+    ensures short { λ r. ⌜ r .asks ≤ 18 ⌝ }
 {
     let mut fills = [false; 6];
     let mut asks = 12;
@@ -25,3 +27,8 @@ pub fn plan_stretch(seen: [Label; 6]) -> Stretch
     }
     Stretch { fills, asks }
 }
+
+// The root record's mending asks for just as much as is counted here.
+pub fn stretch_asks()
+    ensures { λ _. ⌜ StretchAsks ⌝ }
+{}

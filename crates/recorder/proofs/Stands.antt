@@ -14,7 +14,6 @@ use Rattle.register.specs.declared.Call.the-variants.{Set, Get}
 use Rattle.register.specs.declared.Reply.{Reply}
 use Rattle.register.specs.Register.{register, Answers, sets, gets}
 use Rattle.root.specs.Root as root
-use Rattle.root.proofs.Root.{root-stands}
 use Rattle.labels.specs.Times.{Time, timed}
 use Rattle.labels.proofs.Lawful.{labels-stand}
 use Rattle.steps.proofs.Mirror.{code-keeps, code-within}
@@ -74,10 +73,10 @@ module _ (size : ℕ) where
 pub recorded-keeps : Keeps register recorded
 recorded-keeps =
     let k : KeepsAbove (root.judge timed) register spelling = keeps-above {Off = λ size. Off} {On = λ size. On} (λ size lo hi. spelled size) in
-    layers-compose (root.Call Time) (root.Reply Time) Call Reply (root.judge timed) register (root.machine timed) spelling (root-stands timed labels-stand .0) k
+    layers-compose (root.Call Time) (root.Reply Time) Call Reply (root.judge timed) register (root.machine timed) spelling (labels-stand .1 .0) k
 
 pub recorded-within : Within recorded
-recorded-within = layers-stay-within (root.Call Time) (root.Reply Time) Call Reply (root.machine timed) spelling (root-stands timed labels-stand .1)
+recorded-within = layers-stay-within (root.Call Time) (root.Reply Time) Call Reply (root.machine timed) spelling (labels-stand .1 .1)
 
 pub recorder-stands : RecorderStands
 recorder-stands n h =

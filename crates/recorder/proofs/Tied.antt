@@ -1,11 +1,11 @@
 -- The code of the root record is the machine to be read, request by request.
 -- Assumes nothing.
-use mathlib.Core.Path.{_≡_, refl, sym, _∙_, ap, subst, subst⁻¹}
-use mathlib.Core.Logic.{_⊎_, inl, inr}
+use mathlib.Core.Path.{_≡_, refl, _∙_, ap, subst, subst⁻¹}
+use mathlib.Core.Logic.{inl, inr}
 use mathlib.Core.Bool.{Bool, true, false, cond, not}
 use mathlib.Core.Option.{Option, none, some}
 use mathlib.Core.List.{List, [], _∷_, map}
-use Prim.Native.Nat.{ℕ, zero, suc}
+use Prim.Native.Nat.{ℕ, suc}
 use native.Mathlib.Omega.{arith}
 use lib.ListN.{length, getD}
 use Rattle.drives.specs.Drives.{put, Io, answer, write, then'}
@@ -24,32 +24,22 @@ use Rattle.labels.specs.declared.Label.{Label}
 use Rattle.labels.specs.declared.Record.{Record}
 use Rattle.labels.specs.declared.Record.the-variants.{Empty, Committed}
 use Rattle.labels.specs.Times.{Time, timeOf, timed, labelOf, labelIn, labelBytes, trusts, recordFor, recordAs}
-use Rattle.labels.proofs.Lawful.{time-of, labels-stand}
+use Rattle.labels.proofs.Lawful.{time-of, timed-lawful}
+use Rattle.labels.proofs.Shows.{trust-is}
 use Rattle.mending.specs.Stretches.{lacks}
 use Rattle.steps.specs.Steps.{Held, Stepped, unused, Ample, placed, first}
 use Rattle.steps.specs.Ties.{Goes, Tied}
 use Rattle.steps.specs.declared.Lent.{Lent}
-use Rattle.steps.specs.declared.Ask.the-variants.{Read, Write, Sync, Again, Done}
+use Rattle.steps.specs.declared.Ask.the-variants.{Write, Again, Done}
 use Rattle.steps.proofs.Does.{Does, answers, reads, writes, syncs, again, follows}
 use Rattle.steps.proofs.Lents.{unused-ample, placed-ample, sector-placed}
 use Rattle.recorder.specs.declared.Task.{Task}
-use Rattle.recorder.specs.declared.Task.the-variants.{Opens, Sets, Gets, Mends}
+use Rattle.recorder.specs.declared.Task.the-variants.{Opens, Sets, Mends}
 use Rattle.recorder.specs.declared.Phase.the-variants.{Begun, Reading, Writing, Syncing, Over}
 use Rattle.recorder.specs.declared.Recorder.{Recorder}
 use Rattle.recorder.specs.Recording.{moved, decided, lowestIn, getsAtFirst, goes, startsOn, payloadIn, saidBy, replyAs, recorderCode, recorded, recorderSame}
 
 -- WHAT A SECTOR SHOWS IS WHAT THE MACHINE SEES IN IT
-
-trust-of : (o : Option (root.Label Time)) → trusts (labelOf o) ≡ root.isThere (root.recordOf o)
-trust-of none = refl
-trust-of (some root.missing) = refl
-trust-of (some root.blank) = refl
-trust-of (some root.rebuilding) = refl
-trust-of (some (root.has root.empty)) = refl
-trust-of (some (root.has (root.committed t))) = refl
-
-trust-is : (b : List ℕ) → trusts (labelIn b) ≡ root.trusted timed b
-trust-is b = trust-of (timed .decode b)
 
 -- what is committed, as a record
 abbrev found : Option Time → Record
@@ -77,7 +67,7 @@ bytes-are : (m : root.Record Time) → labelBytes (recordAs m) ≡ timed .encode
 bytes-are m = ap (λ x. timed .encode (root.has x)) (again-is m)
 
 record-long : (m : root.Record Time) → length (timed .encode (root.has m)) ≡ 512
-record-long m = elim (labels-stand .whole (root.has m)) [ inl e ↦ absurd (let z : _≡_ {A = ℕ} 0 1 = cc in omega arith) | inr e ↦ e ]
+record-long m = elim (timed-lawful .whole (root.has m)) [ inl e ↦ absurd (let z : _≡_ {A = ℕ} 0 1 = cc in omega arith) | inr e ↦ e ]
 
 -- LOOPS
 
@@ -108,8 +98,10 @@ module _ {A B : Type 0} {S : Held Recorder → B → Type 0} (g : A → Io B) (a
     where
       label : labelBytes (r .current) ≡ bytes
       label = ap labelBytes is ∙ bytes-are m
+
       long : length (labelBytes (r .current)) ≡ 512
       long = ap length label ∙ record-long m
+
       go : (u : Bool) → Does f S (suc n) (cond u (goes (moved (Writing i) r) (placed 0 (labelBytes (r .current)) lent) (Write i 0 0)) (goes (moved (Writing i) r) lent Again)) (cond u (write i 0 bytes p) p) g
       go true = writes (sector-placed lent h 0 (labelBytes (r .current)) long ∙ label) (next (placed 0 (labelBytes (r .current)) lent) (placed-ample lent h 0 (labelBytes (r .current))))
       go false = again (next lent h)
@@ -172,7 +164,7 @@ opens-by size x none =
 opens-by size x (some v) =
     let r = ready x (map trusts (labelsIn x)) (recordAs (root.committed v)) Opens in
     writes-all G (root.committed v) (λ i. root.trusted timed (sectors x i)) (root.committed v) r refl (opened size (root.committed v) (moved Over r) refl)
-      (trust-is (x .b₀)) (trust-is (x .b₁)) (trust-is (x .b₂)) (trust-is (x .b₃)) (trust-is (x .b₄)) (trust-is (x .b₅)) unused unused-ample
+    (trust-is (x .b₀)) (trust-is (x .b₁)) (trust-is (x .b₂)) (trust-is (x .b₃)) (trust-is (x .b₄)) (trust-is (x .b₅)) unused unused-ample
 
 opens-to : (size : ℕ) (x : Six) (o : Option Time) (c : Record) → c ≡ found o → Does f (Same size) 14 (f (record { me = ready x (getsAtFirst c (labelsIn x)) c Opens; lent = unused }) []) (opening timed o (sectors x)) G
 opens-to size x o c e = subst⁻¹ (λ d. Does f (Same size) 14 (f (record { me = ready x (getsAtFirst d (labelsIn x)) d Opens; lent = unused }) []) (opening timed o (sectors x)) G) e (opens-by size x o)
@@ -181,8 +173,8 @@ opens-all : (size : ℕ) → Does f (Same size) 21 (first recorderCode (recorder
 unfolding lowest
 opens-all size =
     reads-all G (λ fs. opening timed (lowest timed 6 none fs) fs) (recorderCode .opening size) unused
-      (λ x. again (opens-to size x _ _
-        (lowest-is (x .b₀) _ _ (lowest-is (x .b₁) _ _ (lowest-is (x .b₂) _ _ (lowest-is (x .b₃) _ _ (lowest-is (x .b₄) _ _ (lowest-is (x .b₅) [] none refl))))))))
+    (λ x. again (opens-to size x _ _
+    (lowest-is (x .b₀) _ _ (lowest-is (x .b₁) _ _ (lowest-is (x .b₂) _ _ (lowest-is (x .b₃) _ _ (lowest-is (x .b₄) _ _ (lowest-is (x .b₅) [] none refl))))))))
 
 -- CALLS
 
@@ -210,13 +202,13 @@ was-set size t r p e k lent h = Goes.ends (ap (λ j. saidBy j (r .current)) k, (
 module _ (size : ℕ) (h : Held Recorder) (m : recorded .Mem) (same : Same size h m) where
   set-to : (p : Payload) (x : Six) →
       Does f (AfterCall size) 14 (f (record { me = ready x (map trusts (labelsIn x)) (Committed (kept p)) (Sets (kept p)); lent = h .lent }) [])
-        (settle timed (root.trusted timed) (root.committed (timeOf (p .time))) (record { reply = root.Done; mem = root.committed (timeOf (p .time)) }) (sectors x)) (λ y. then' (Q y) H)
+      (settle timed (root.trusted timed) (root.committed (timeOf (p .time))) (record { reply = root.Done; mem = root.committed (timeOf (p .time)) }) (sectors x)) (λ y. then' (Q y) H)
   unfolding settle
   set-to p x =
       let v = timeOf (p .time) in
       let r = ready x (map trusts (labelsIn x)) (Committed (kept p)) (Sets (kept p)) in
       writes-all (λ y. then' (Q y) H) (record { reply = root.Done; mem = root.committed v }) (λ i. root.trusted timed (sectors x i)) (root.committed v) r refl (was-set size v (moved Over r) (kept p) refl refl)
-        (trust-is (x .b₀)) (trust-is (x .b₁)) (trust-is (x .b₂)) (trust-is (x .b₃)) (trust-is (x .b₄)) (trust-is (x .b₅)) (h .lent) (same .1)
+      (trust-is (x .b₀)) (trust-is (x .b₁)) (trust-is (x .b₂)) (trust-is (x .b₃)) (trust-is (x .b₄)) (trust-is (x .b₅)) (h .lent) (same .1)
 
   got : (k : root.Record Time) → reply.Is (payloadIn (recordAs k)) ≡ replyAs (root.Payload (root.payload timed k))
   got root.empty = refl
@@ -226,7 +218,7 @@ module _ (size : ℕ) (h : Held Recorder) (m : recorded .Mem) (same : Same size 
   unfolding does then' through
   calls (Set p) =
       follows Q (reads-all (λ y. then' (Q y) H) (settle timed (root.trusted timed) (root.committed (timeOf (p .time))) (record { reply = root.Done; mem = root.committed (timeOf (p .time)) }))
-        (startsOn (Set p) (h .me)) (h .lent) (λ x. again (set-to p x))) .go
+      (startsOn (Set p) (h .me)) (h .lent) (λ x. again (set-to p x))) .go
   calls Get = Goes.ends (ap (λ c. reply.Is (payloadIn c)) (same .0) ∙ got (m .below), same)
 
   -- MENDING
@@ -242,12 +234,12 @@ module _ (size : ℕ) (h : Held Recorder) (m : recorded .Mem) (same : Same size 
 
   mends-to : (x : Six) →
       Does f AfterMending 14 (f (record { me = ready x (map lacks (labelsIn x)) (h .me .current) Mends; lent = h .lent }) [])
-        (settle timed (root.untrusted timed) (m .below) (record { whole = true; mem = m .below }) (sectors x)) W
+      (settle timed (root.untrusted timed) (m .below) (record { whole = true; mem = m .below }) (sectors x)) W
   unfolding settle
   mends-to x =
       writes-all W (record { whole = true; mem = m .below }) (λ i. root.untrusted timed (sectors x i)) (m .below) (ready x (map lacks (labelsIn x)) (h .me .current) Mends) (same .0)
-        (λ lent a. Goes.ends (refl, (same .0, a)))
-        (ap not (trust-is (x .b₀))) (ap not (trust-is (x .b₁))) (ap not (trust-is (x .b₂))) (ap not (trust-is (x .b₃))) (ap not (trust-is (x .b₄))) (ap not (trust-is (x .b₅))) (h .lent) (same .1)
+      (λ lent a. Goes.ends (refl, (same .0, a)))
+      (ap not (trust-is (x .b₀))) (ap not (trust-is (x .b₁))) (ap not (trust-is (x .b₂))) (ap not (trust-is (x .b₃))) (ap not (trust-is (x .b₄))) (ap not (trust-is (x .b₅))) (h .lent) (same .1)
 
   mends : Goes f AfterMending 21 (first recorderCode (recorderCode .mending (h .me)) (h .lent)) (recorded .mends m)
   mends = reads-all W (settle timed (root.untrusted timed) (m .below) (record { whole = true; mem = m .below })) (recorderCode .mending (h .me)) (h .lent) (λ x. again (mends-to x)) .go

@@ -68,8 +68,9 @@ decided Mends r = record { drives = r .drives; gets = stretchOf (r .drives .seen
 abbrev pub goes : Recorder → Lent → Ask → Stepped Recorder
 goes r lent a = record { me = r; lent = lent; ask = a }
 
-abbrev pub begins : Recorder → Recorder
-begins r = record { drives = unseen; gets = r .gets; current = r .current; task = r .task; phase = Reading 5 }
+-- all labels are to be read, whatever was seen before
+abbrev pub readAll : Recorder → Lent → Stepped Recorder
+readAll r lent = goes (record { drives = unseen; gets = r .gets; current = r .current; task = r .task; phase = Reading 5 }) lent (Read 5 0)
 
 abbrev pub sees : ℕ → Label → Recorder → Recorder
 sees i l r = record { drives = noted (r .drives) i l; gets = r .gets; current = r .current; task = r .task; phase = r .phase }
@@ -78,27 +79,27 @@ sees i l r = record { drives = noted (r .drives) i l; gets = r .gets; current = 
 abbrev pub readOn : ℕ → Recorder → Lent → Label → Stepped Recorder
 readOn i r lent l =
     cond (eqb i 0)
-      (goes (decided (r .task) (sees i l r)) lent Again)
-      (goes (moved (Reading (i - 1)) (sees i l r)) lent (Read (i - 1) 0))
+    (goes (decided (r .task) (sees i l r)) lent Again)
+    (goes (moved (Reading (i - 1)) (sees i l r)) lent (Read (i - 1) 0))
 
 -- the drives below n are still to be written to
 abbrev pub writeOn : ℕ → Recorder → Lent → Stepped Recorder
 writeOn n r lent =
     cond (eqb n 0)
-      (goes (moved (Syncing 6) r) lent Again)
-      (cond (getD (r .gets) (n - 1) false)
-        (goes (moved (Writing (n - 1)) r) (placed 0 (labelBytes (r .current)) lent) (Write (n - 1) 0 0))
-        (goes (moved (Writing (n - 1)) r) lent Again))
+    (goes (moved (Syncing 6) r) lent Again)
+    (cond (getD (r .gets) (n - 1) false)
+    (goes (moved (Writing (n - 1)) r) (placed 0 (labelBytes (r .current)) lent) (Write (n - 1) 0 0))
+    (goes (moved (Writing (n - 1)) r) lent Again))
 
 -- the drives below n are still to be synced
 abbrev pub syncOn : ℕ → Recorder → Lent → Stepped Recorder
 syncOn n r lent =
     cond (eqb n 0)
-      (goes (moved Over r) lent Done)
-      (goes (moved (Syncing (n - 1)) r) lent (Sync (n - 1)))
+    (goes (moved Over r) lent Done)
+    (goes (moved (Syncing (n - 1)) r) lent (Sync (n - 1)))
 
 abbrev pub stepIn : Phase → Recorder → Lent → List ℕ → Stepped Recorder
-stepIn Begun r lent got = goes (begins r) lent (Read 5 0)
+stepIn Begun r lent got = readAll r lent
 stepIn (Reading i) r lent got = readOn i r lent (labelIn got)
 stepIn (Writing n) r lent got = writeOn n r lent
 stepIn (Syncing n) r lent got = syncOn n r lent
@@ -118,15 +119,19 @@ saidBy (Sets p) c = reply.Done
 saidBy Gets c = reply.Is (payloadIn c)
 saidBy Mends c = reply.Done
 
+abbrev pub fresh : Recorder
+fresh = record { drives = unseen; gets = replicate 6 false; current = Empty; task = Opens; phase = Begun }
+
 abbrev pub recorderCode : Stepping Call Reply Recorder
 recorderCode =
     record {
       steps = λ h got. stepIn (h .me .phase) (h .me) (h .lent) got;
-      opening = λ size. record { drives = unseen; gets = replicate 6 false; current = Empty; task = Opens; phase = Begun };
+      opening = λ size. fresh;
       starts = startsOn;
       mending = λ r. record { drives = r .drives; gets = r .gets; current = r .current; task = Mends; phase = Begun };
       says = λ r. saidBy (r .task) (r .current);
-      whole = λ r. true }
+      whole = λ r. true;
+    }
 
 -- THE MACHINE, to be read: the root record, with the calls of a register
 
@@ -149,9 +154,9 @@ abbrev pub recorderSame : ℕ → Held Recorder → recorded .Mem → Type 0
 recorderSame size h m = (h .me .current ≡ recordAs (m .below)) × Ample (h .lent)
 
 -- how many requests are enough: 18 of the drives, and three steps that ask for nothing
-abbrev pub enoughFor : ℕ
-enoughFor = 21
+abbrev pub budget : ℕ
+budget = 21
 
 -- THE RECORDER STANDS: in code, what was set is got, whatever happens and whatever becomes of two drives.
 abbrev pub RecorderStands : Type 0
-RecorderStands = (n : ℕ) → 21 ≤ n → Keeps register (machineOf recorderCode n) × Within (machineOf recorderCode n)
+RecorderStands = (n : ℕ) → budget ≤ n → Keeps register (machineOf recorderCode n) × Within (machineOf recorderCode n)

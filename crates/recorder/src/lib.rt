@@ -4,9 +4,9 @@ ghost use mathlib.Core.Bool.{false};
 ghost use mathlib.Core.List.{map};
 ghost use lib.ListN.{getD};
 ghost use Rattle.labels.specs.Times.{trusts};
-
 ghost use Rattle.steps.specs.declared.Lent.{Lent};
-ghost use Rattle.recorder.specs.Recording.{moved, noted, lowestIn, getsAtFirst, decided, goes, sees, readOn, writeOn, syncOn, begins, payloadIn, recorderCode, recorded, recorderSame, RecorderStands};
+ghost use Rattle.register.specs.Register.{register};
+ghost use Rattle.recorder.specs.Recording.{lowestIn, getsAtFirst, noted, decided, goes, readAll, readOn, writeOn, syncOn, payloadIn, fresh, budget, recorderCode, recorded, recorderSame, RecorderStands};
 use labels::Label;
 use labels::Record;
 use labels::is_trusted;
@@ -18,6 +18,7 @@ use register::Payload;
 use register::Reply;
 use steps::Ask;
 use steps::Lent;
+use steps::machines::Judged;
 use steps::machines::Stepper;
 
 // Drives 0 to 5: the label that each of them shows.
@@ -56,6 +57,9 @@ pub struct Recorder {
     pub phase: Phase,
 }
 
+// How many requests are enough for whatever a recorder is asked: 18 of the drives, and three steps that ask for nothing.
+pub const BUDGET: u64 = 21;
+
 // The drives, once drive i has shown a label.
 fn note(d: Drives, i: u8, l: Label) -> Drives
     ensures { λ r. ⌜ r ≡ noted d i l ⌝ }
@@ -67,8 +71,9 @@ fn note(d: Drives, i: u8, l: Label) -> Drives
     Drives { seen }
 }
 
-fn is_marked(gets: [bool; 6], i: u8) -> bool
-    ensures { λ r. ⌜ r ≡ getD gets i false ⌝ }
+// Whether drive i gets the record.
+fn is_marked(gets: &[bool; 6], i: u8) -> bool
+    ensures { λ r. ⌜ r ≡ getD (now (gets .entry)) i false ⌝ }
 {
     if i < 6 { gets[i as usize] } else { false }
 }
@@ -107,101 +112,6 @@ fn gets_at_first(r: Record, seen: [Label; 6]) -> [bool; 6]
     }
 }
 
-// What all labels come to: which record is written, and to which drives.
-fn decide(r: Recorder) -> Recorder
-    ensures { λ s. ⌜ s ≡ decided (r .task) r ⌝ }
-{
-    let drives = r.drives;
-    let seen = drives.seen;
-    let task = r.task;
-    let phase = Phase::Writing { left: 6 };
-    match task {
-        Task::Opens => {
-            let current = lowest(seen);
-            let gets = gets_at_first(current, seen);
-            Recorder { drives, gets, current, task, phase }
-        }
-        Task::Sets(p) => {
-            let gets = trusted(seen);
-            Recorder { drives, gets, current: Record::Committed(p), task, phase }
-        }
-        Task::Gets => move_to(r, Phase::Over),
-        Task::Mends => {
-            let gets = plan_stretch(seen).fills;
-            Recorder { drives, gets, current: r.current, task, phase }
-        }
-    }
-}
-
-fn move_to(r: Recorder, phase: Phase) -> Recorder
-    ensures { λ s. ⌜ s ≡ moved phase r ⌝ }
-{
-    let gets = r.gets;
-    Recorder { drives: r.drives, gets, current: r.current, task: r.task, phase }
-}
-
-// Begins to read: whatever was seen before, a drive may have been replaced since, so no label is kept.
-fn begin_reading(r: Recorder) -> Recorder
-    ensures { λ s. ⌜ s ≡ begins r ⌝ }
-{
-    let seen = [Label::Missing; 6];
-    let gets = r.gets;
-    Recorder { drives: Drives { seen }, gets, current: r.current, task: r.task, phase: Phase::Reading { drive: 5 } }
-}
-
-fn see(r: Recorder, i: u8, l: Label) -> Recorder
-    ensures { λ s. ⌜ s ≡ sees i l r ⌝ }
-{
-    let gets = r.gets;
-    Recorder { drives: note(r.drives, i, l), gets, current: r.current, task: r.task, phase: r.phase }
-}
-
-// Drive i has shown a label: the next one is read, or it is decided what to write.
-fn read_on(r: &mut Recorder, i: u8, l: Label) -> Ask
-    ensures { λ a. ⌜ ((lent : Lent) → goes (now (r .exit)) lent a ≡ readOn i (now (r .entry)) lent l) ⌝ }
-{
-    let s = see(*r, i, l);
-    if i == 0 {
-        *r = decide(s);
-        Ask::Again
-    } else {
-        *r = move_to(s, Phase::Reading { drive: i - 1 });
-        Ask::Read { drive: i - 1, sector: 0 }
-    }
-}
-
-// The record goes to the next drive that gets it; after the last, all drives are synced.
-fn write_on(r: &mut Recorder, left: u8, lent: &mut Lent) -> Ask
-    ensures { λ a. ⌜ goes (now (r .exit)) (now (lent .exit)) a ≡ writeOn left (now (r .entry)) (now (lent .entry)) ⌝ }
-{
-    if left == 0 {
-        *r = move_to(*r, Phase::Syncing { left: 6 });
-        return Ask::Again;
-    }
-    let i = left - 1;
-    let gets = r.gets;
-    *r = move_to(*r, Phase::Writing { left: i });
-    if is_marked(gets, i) {
-        lent.place(0, &write_label(r.current));
-        Ask::Write { drive: i, sector: 0, at: 0 }
-    } else {
-        Ask::Again
-    }
-}
-
-// The next drive is synced. Only when all are is anything answered.
-fn sync_on(r: &mut Recorder, left: u8) -> Ask
-    ensures { λ a. ⌜ ((lent : Lent) → goes (now (r .exit)) lent a ≡ syncOn left (now (r .entry)) lent) ⌝ }
-{
-    if left == 0 {
-        *r = move_to(*r, Phase::Over);
-        Ask::Done
-    } else {
-        *r = move_to(*r, Phase::Syncing { left: left - 1 });
-        Ask::Sync { drive: left - 1 }
-    }
-}
-
 fn payload_in(r: Record) -> Payload
     ensures { λ p. ⌜ p ≡ payloadIn r ⌝ }
 {
@@ -211,10 +121,120 @@ fn payload_in(r: Record) -> Payload
     }
 }
 
+impl Recorder {
+    // As it is before it comes up: it knows of no drive.
+    pub fn new() -> Recorder
+        ensures { λ r. ⌜ r ≡ fresh ⌝ }
+    {
+        let seen = [Label::Missing; 6];
+        let gets = [false; 6];
+        Recorder {
+            drives: Drives { seen },
+            gets,
+            current: Record::Empty,
+            task: Task::Opens,
+            phase: Phase::Begun,
+        }
+    }
+
+    // What all labels come to: which record is written, and to which drives.
+    fn decide(&mut self)
+        ensures { λ _. ⌜ now (self .exit) ≡ decided (now (self .entry) .task) (now (self .entry)) ⌝ }
+    {
+        let seen = self.drives.seen;
+        self.phase = Phase::Writing { left: 6 };
+        match self.task {
+            Task::Opens => {
+                self.current = lowest(seen);
+                let gets = gets_at_first(self.current, seen);
+                self.gets = gets;
+            }
+            Task::Sets(p) => {
+                self.current = Record::Committed(p);
+                let gets = trusted(seen);
+                self.gets = gets;
+            }
+            Task::Gets => self.phase = Phase::Over,
+            Task::Mends => {
+                let gets = plan_stretch(seen).fills;
+                self.gets = gets;
+            }
+        }
+    }
+
+    // Reads the labels, all of them: whatever was seen before, a drive may have been replaced since.
+    fn read_all(&mut self) -> Ask
+        ensures { λ a. ⌜ ((lent : Lent) → goes (now (self .exit)) lent a ≡ readAll (now (self .entry)) lent) ⌝ }
+    {
+        let seen = [Label::Missing; 6];
+        self.drives = Drives { seen };
+        self.phase = Phase::Reading { drive: 5 };
+        Ask::Read {
+            drive: 5,
+            sector: 0,
+        }
+    }
+
+    // Drive i has shown a label: the next one is read, or it is decided what to write.
+    fn read_on(&mut self, i: u8, l: Label) -> Ask
+        ensures { λ a. ⌜ ((lent : Lent) → goes (now (self .exit)) lent a ≡ readOn i (now (self .entry)) lent l) ⌝ }
+    {
+        self.drives = note(self.drives, i, l);
+        if i == 0 {
+            self.decide();
+            Ask::Again
+        } else {
+            self.phase = Phase::Reading { drive: i - 1 };
+            Ask::Read {
+                drive: i - 1,
+                sector: 0,
+            }
+        }
+    }
+
+    // The record goes to the next drive that gets it; after the last, all drives are synced.
+    fn write_on(&mut self, left: u8, lent: &mut Lent) -> Ask
+        ensures { λ a. ⌜ goes (now (self .exit)) (now (lent .exit)) a ≡ writeOn left (now (self .entry)) (now (lent .entry)) ⌝ }
+    {
+        if left == 0 {
+            self.phase = Phase::Syncing { left: 6 };
+            return Ask::Again;
+        }
+        let i = left - 1;
+        self.phase = Phase::Writing { left: i };
+        if is_marked(&self.gets, i) {
+            lent.place(0, &write_label(self.current));
+            Ask::Write {
+                drive: i,
+                sector: 0,
+                at: 0,
+            }
+        } else {
+            Ask::Again
+        }
+    }
+
+    // The next drive is synced. Only when all are is anything answered.
+    fn sync_on(&mut self, left: u8) -> Ask
+        ensures { λ a. ⌜ ((lent : Lent) → goes (now (self .exit)) lent a ≡ syncOn left (now (self .entry)) lent) ⌝ }
+    {
+        if left == 0 {
+            self.phase = Phase::Over;
+            Ask::Done
+        } else {
+            self.phase = Phase::Syncing { left: left - 1 };
+            Ask::Sync { drive: left - 1 }
+        }
+    }
+}
+
 pub impl Stepper for Recorder as RecorderStepper {
     type Call = Call;
+
     type Reply = Reply;
+
     type Inside = ();
+
     type State = Recorder;
 
     ghost view = { λ r. r };
@@ -223,14 +243,12 @@ pub impl Stepper for Recorder as RecorderStepper {
 
     ghost machine = { recorded };
 
-    ghost most = { 21 };
+    ghost most = { budget };
 
     ghost same = { recorderSame };
 
     fn open(&mut self, size: u64) {
-        let seen = [Label::Missing; 6];
-        let gets = [false; 6];
-        *self = Recorder { drives: Drives { seen }, gets, current: Record::Empty, task: Task::Opens, phase: Phase::Begun };
+        *self = Recorder::new();
     }
 
     fn begin(&mut self, c: Call) {
@@ -253,13 +271,10 @@ pub impl Stepper for Recorder as RecorderStepper {
 
     fn step(&mut self, lent: &mut Lent, got: &[u8]) -> Ask {
         match self.phase {
-            Phase::Begun => {
-                *self = begin_reading(*self);
-                Ask::Read { drive: 5, sector: 0 }
-            }
-            Phase::Reading { drive } => read_on(self, drive, read_label(got)),
-            Phase::Writing { left } => write_on(self, left, lent),
-            Phase::Syncing { left } => sync_on(self, left),
+            Phase::Begun => self.read_all(),
+            Phase::Reading { drive } => self.read_on(drive, read_label(got)),
+            Phase::Writing { left } => self.write_on(left, lent),
+            Phase::Syncing { left } => self.sync_on(left),
             Phase::Over => Ask::Done,
         }
     }
@@ -274,6 +289,11 @@ pub impl Stepper for Recorder as RecorderStepper {
     fn is_whole(&self) -> bool {
         true
     }
+}
+
+// The judge of a recorder is a register.
+pub impl Judged for Recorder as RecorderJudged {
+    ghost judge = { register };
 }
 
 // What was set is got, after any cut, loss, replacement and mending: by this code, with any budget that is enough.
