@@ -66,11 +66,12 @@ unfolding every many
 list-is n es b h =
     let w = all-written entry-laws n (now es) b h in
     let body : replyBytes (says (Listing n es)) ≡ number 1 4 ++ (number 2 n ++ (now es ++ [])) =
-        ap (λ (m : ℕ). number 1 4 ++ (number 2 m ++ (many entry (allIn entryIn n (now es)) ++ []))) (w .1) ∙ ap (λ (l : List ℕ). number 1 4 ++ (number 2 n ++ (l ++ []))) (sym (w .0)) in
+    ap (λ (m : ℕ). number 1 4 ++ (number 2 m ++ (many entry (allIn entryIn n (now es)) ++ []))) (w .1) ∙ ap (λ (l : List ℕ). number 1 4 ++ (number 2 n ++ (l ++ []))) (sym (w .0)) in
     record {
-        fit = whole-says (length (now es)) _ (omega (arith, ap length (append-nil (now es))))
-            ∙ sym (ap (λ (t : Bool). t && ltb (4 + length (replyBytes (says (Listing n es)))) 4294967296) h ∙ ap (λ (l : List ℕ). ltb (4 + length l) 4294967296) body);
-        body = sym body }
+      fit = whole-says (length (now es)) _ (omega (arith, ap length (append-nil (now es))))
+          ∙ sym (ap (λ (t : Bool). t && ltb (4 + length (replyBytes (says (Listing n es)))) 4294967296) h ∙ ap (λ (l : List ℕ). ltb (4 + length l) 4294967296) body);
+      body = sym body;
+    }
 
 -- an entry has at most 272 bytes
 entry-fits : (m n : ℕ) → (m < 256 → n < 4294967296) → ((ltb m 256 && true) && ltb n 4294967296) ≡ ltb m 256

@@ -32,9 +32,16 @@ pub enum Answer<'a> {
     Yes,
     Number(u64),
     // some bytes of a version, and how long the whole is
-    Got { number: u64, length: u64, bytes: &'a [u8] },
+    Got {
+        number: u64,
+        length: u64,
+        bytes: &'a [u8],
+    },
     // the entries as they stand on the line: next_entry takes them off one by one
-    List { count: u16, entries: &'a [u8] },
+    List {
+        count: u16,
+        entries: &'a [u8],
+    },
     Full,
 }
 
@@ -45,14 +52,29 @@ pub fn next_entry(entries: &[u8]) -> Option<(Entry<'_>, &[u8])>
     let (key, rest) = name_in(entries)?;
     let (number, rest) = u64_in(rest)?;
     let (length, rest) = u64_in(rest)?;
-    Some((Entry { key, number, length }, rest))
+    Some((
+        Entry {
+            key,
+            number,
+            length,
+        },
+        rest,
+    ))
 }
 
 // Writes an entry from `at` on and says where it ends, or leaves `out` alone.
 pub fn put_entry(shown: Entry<'_>, at: usize, out: &mut [u8]) -> Option<usize>
     ensures { λ r. ⌜ Added (isName (now (shown .entry .key))) at (entry (shows (shown .entry))) (now (out .entry)) r (now (out .exit)) ⌝ }
 {
-    append(&[Field::Name(shown.key), Field::U64(shown.number), Field::U64(shown.length)], at, out)
+    append(
+        &[
+            Field::Name(shown.key),
+            Field::U64(shown.number),
+            Field::U64(shown.length),
+        ],
+        at,
+        out,
+    )
 }
 
 // Are these so many entries, and nothing else?
@@ -81,7 +103,11 @@ fn no(fields: &[u8]) -> Option<Answer<'_>>
 {
     let (number, rest) = u8_in(fields)?;
     let refusal = Refusal::of(number)?;
-    if rest.is_empty() { Some(Answer::No(refusal)) } else { None }
+    if rest.is_empty() {
+        Some(Answer::No(refusal))
+    } else {
+        None
+    }
 }
 
 fn got(fields: &[u8]) -> Option<Answer<'_>>
@@ -90,7 +116,14 @@ fn got(fields: &[u8]) -> Option<Answer<'_>>
     let (number, rest) = u64_in(fields)?;
     let (length, rest) = u64_in(rest)?;
     let (bytes, rest) = content_in(rest)?;
-    ended(rest, Answer::Got { number, length, bytes })
+    ended(
+        rest,
+        Answer::Got {
+            number,
+            length,
+            bytes,
+        },
+    )
 }
 
 fn list(fields: &[u8]) -> Option<Answer<'_>>
@@ -107,7 +140,11 @@ fn number(fields: &[u8]) -> Option<Answer<'_>>
     ensures { λ r. ⌜ saying r ≡ numIn (now (fields .entry)) ⌝ }
 {
     let (number, rest) = u64_in(fields)?;
-    if rest.is_empty() { Some(Answer::Number(number)) } else { None }
+    if rest.is_empty() {
+        Some(Answer::Number(number))
+    } else {
+        None
+    }
 }
 
 fn answer_of(kind: u8, fields: &[u8]) -> Option<Answer<'_>>
@@ -153,14 +190,31 @@ pub fn write_answer(tag: u32, answer: Answer<'_>, out: &mut [u8]) -> Option<usiz
         Answer::No(refusal) => write_line(tag, &[Field::U8(0), Field::U8(refusal.number())], out),
         Answer::Yes => write_line(tag, &[Field::U8(1)], out),
         Answer::Number(number) => write_line(tag, &[Field::U8(2), Field::U64(number)], out),
-        Answer::Got { number, length, bytes } => {
-            write_line(tag, &[Field::U8(3), Field::U64(number), Field::U64(length), Field::Content(bytes)], out)
+        Answer::Got {
+            number,
+            length,
+            bytes,
+        } => {
+            write_line(
+                tag,
+                &[
+                    Field::U8(3),
+                    Field::U64(number),
+                    Field::U64(length),
+                    Field::Content(bytes),
+                ],
+                out,
+            )
         }
         Answer::List { count, entries } => {
             if !are_entries(count, entries) {
                 return None;
             }
-            write_line(tag, &[Field::U8(4), Field::U16(count), Field::Plain(entries)], out)
+            write_line(
+                tag,
+                &[Field::U8(4), Field::U16(count), Field::Plain(entries)],
+                out,
+            )
         }
         Answer::Full => write_line(tag, &[Field::U8(5)], out),
     }

@@ -91,9 +91,10 @@ put-is room key version bytes =
     let bs = now bytes in
     let e = expected (expects version) in
     record {
-        fit = whole-says (isName (now room)) (isName (now key)) (length bs) _
-            (omega (arith, length-append (now room) (name (now key) ++ (e ++ (content bs ++ []))), length-append (now key) (e ++ (content bs ++ [])), length-append e (content bs ++ []), ap length (append-nil bs)));
-        body = refl }
+      fit = whole-says (isName (now room)) (isName (now key)) (length bs) _
+          (omega (arith, length-append (now room) (name (now key) ++ (e ++ (content bs ++ []))), length-append (now key) (e ++ (content bs ++ [])), length-append e (content bs ++ []), ap length (append-nil bs)));
+      body = refl;
+    }
 
 pub part-is : (room : RefT (List ℕ)) (upload place : ℕ) (bytes : RefT (List ℕ)) → Is (U8 9 ∷ Name room ∷ U64 upload ∷ U16 place ∷ Content bytes ∷ []) (Part room upload place bytes)
 unfolding every many
@@ -107,9 +108,10 @@ rules-is room count rules b h =
     let w = all-written rule-laws count (now rules) b h in
     let front : ℕ → List ℕ → List ℕ = λ m l. number 1 13 ++ (name (now room) ++ (number 1 m ++ (l ++ []))) in
     let body : callBytes (means (Rules room count rules)) ≡ front count (now rules) =
-        ap (λ (m : ℕ). front m (many rule (allIn ruleIn count (now rules)))) (w .1) ∙ ap (λ (l : List ℕ). front count l) (sym (w .0)) in
+    ap (λ (m : ℕ). front m (many rule (allIn ruleIn count (now rules)))) (w .1) ∙ ap (λ (l : List ℕ). front count l) (sym (w .0)) in
     record {
-        fit = whole-says true (isName (now room)) (length (now rules)) _ (omega (arith, length-append (now room) (number 1 count ++ (now rules ++ [])), ap length (append-nil (now rules))))
-            ∙ sym (ap (λ (t : Bool). (t && (isName (now room) && true)) && ltb (4 + length (callBytes (means (Rules room count rules)))) 4294967296) h
-              ∙ ap (λ (l : List ℕ). (isName (now room) && true) && ltb (4 + length l) 4294967296) body);
-        body = sym body }
+      fit = whole-says true (isName (now room)) (length (now rules)) _ (omega (arith, length-append (now room) (number 1 count ++ (now rules ++ [])), ap length (append-nil (now rules))))
+          ∙ sym (ap (λ (t : Bool). (t && (isName (now room) && true)) && ltb (4 + length (callBytes (means (Rules room count rules)))) 4294967296) h
+          ∙ ap (λ (l : List ℕ). (isName (now room) && true) && ltb (4 + length l) 4294967296) body);
+      body = sym body;
+    }

@@ -33,27 +33,98 @@ pub fn write_call(tag: u32, call: Call<'_>, out: &mut [u8]) -> Option<usize>
     match call {
         Call::MakeRoom { name, keeps } => write_line(tag, &[U8(1), Name(name), Flag(keeps)], out),
         Call::DropRoom { name } => write_line(tag, &[U8(2), Name(name)], out),
-        Call::Put { room, key, expected, bytes } => {
-            write_line(tag, &[U8(3), Name(room), Name(key), Expects(expected), Content(bytes)], out)
+        Call::Put {
+            room,
+            key,
+            expected,
+            bytes,
+        } => {
+            write_line(
+                tag,
+                &[
+                    U8(3),
+                    Name(room),
+                    Name(key),
+                    Expects(expected),
+                    Content(bytes),
+                ],
+                out,
+            )
         }
-        Call::Get { room, key, number, from, most } => {
-            write_line(tag, &[U8(4), Name(room), Name(key), U64(number), U64(from), U32(most)], out)
+        Call::Get {
+            room,
+            key,
+            number,
+            from,
+            most,
+        } => {
+            write_line(
+                tag,
+                &[
+                    U8(4),
+                    Name(room),
+                    Name(key),
+                    U64(number),
+                    U64(from),
+                    U32(most),
+                ],
+                out,
+            )
         }
-        Call::Remove { room, key, number } => write_line(tag, &[U8(5), Name(room), Name(key), U64(number)], out),
-        Call::Look { room, beginning, after, most } => {
-            write_line(tag, &[U8(6), Name(room), Name(beginning), Name(after), U16(most)], out)
+        Call::Remove { room, key, number } => write_line(
+            tag,
+            &[U8(5), Name(room), Name(key), U64(number)],
+            out,
+        ),
+        Call::Look {
+            room,
+            beginning,
+            after,
+            most,
+        } => {
+            write_line(
+                tag,
+                &[U8(6), Name(room), Name(beginning), Name(after), U16(most)],
+                out,
+            )
         }
         Call::Versions { room, key } => write_line(tag, &[U8(7), Name(room), Name(key)], out),
         Call::Begin { room, key } => write_line(tag, &[U8(8), Name(room), Name(key)], out),
-        Call::Part { room, upload, place, bytes } => {
-            write_line(tag, &[U8(9), Name(room), U64(upload), U16(place), Content(bytes)], out)
+        Call::Part {
+            room,
+            upload,
+            place,
+            bytes,
+        } => {
+            write_line(
+                tag,
+                &[U8(9), Name(room), U64(upload), U16(place), Content(bytes)],
+                out,
+            )
         }
-        Call::Complete { room, upload, expected } => {
-            write_line(tag, &[U8(10), Name(room), U64(upload), Expects(expected)], out)
+        Call::Complete {
+            room,
+            upload,
+            expected,
+        } => {
+            write_line(
+                tag,
+                &[U8(10), Name(room), U64(upload), Expects(expected)],
+                out,
+            )
         }
         Call::Abort { room, upload } => write_line(tag, &[U8(11), Name(room), U64(upload)], out),
-        Call::Hold { room, key, number, until } => {
-            write_line(tag, &[U8(12), Name(room), Name(key), U64(number), U64(until)], out)
+        Call::Hold {
+            room,
+            key,
+            number,
+            until,
+        } => {
+            write_line(
+                tag,
+                &[U8(12), Name(room), Name(key), U64(number), U64(until)],
+                out,
+            )
         }
         Call::Rules { room, count, rules } => {
             if !are_rules(count, rules) {

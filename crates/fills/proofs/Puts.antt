@@ -18,11 +18,11 @@ put-put at a b out h =
     let now : take at out ++ (a ++ back) ≡ front ++ back = sym (append-assoc (take at out) a back) in
     let kept : take (at + length a) (take at out ++ (a ++ back)) ≡ front = ap (λ (l : List ℕ). take (at + length a) l) now ∙ take-at front back (at + length a) long in
     let past : drop (at + length a + length b) (take at out ++ (a ++ back)) ≡ drop (at + length (a ++ b)) out =
-        ap (λ (l : List ℕ). drop (at + length a + length b) l) now
-        ∙ sym (drop-drop (length b) (at + length a) (front ++ back))
-        ∙ ap (λ (l : List ℕ). drop (length b) l) (drop-at front back (at + length a) long)
-        ∙ drop-drop (length b) (at + length a) out
-        ∙ ap (λ (n : ℕ). drop n out) (add-assoc at (length a) (length b) ∙ ap (λ (n : ℕ). at + n) (sym (length-append a b))) in
+    ap (λ (l : List ℕ). drop (at + length a + length b) l) now
+    ∙ sym (drop-drop (length b) (at + length a) (front ++ back))
+    ∙ ap (λ (l : List ℕ). drop (length b) l) (drop-at front back (at + length a) long)
+    ∙ drop-drop (length b) (at + length a) out
+    ∙ ap (λ (n : ℕ). drop n out) (add-assoc at (length a) (length b) ∙ ap (λ (n : ℕ). at + n) (sym (length-append a b))) in
     rw (kept, past, append-assoc, append-assoc)
 
 pub put-none : (at : ℕ) (out : List ℕ) → putAt at [] out ≡ out

@@ -37,13 +37,25 @@ fn size(field: Field<'_>) -> Option<usize>
         Field::Expects(Expected::Any | Expected::Absent) => Some(1),
         Field::Expects(Expected::Is(_)) => Some(9),
         Field::Name(bytes) => {
-            if bytes.len() < 256 { Some(1 + bytes.len()) } else { None }
+            if bytes.len() < 256 {
+                Some(1 + bytes.len())
+            } else {
+                None
+            }
         }
         Field::Content(bytes) => {
-            if bytes.len() < 1 << 32 { Some(4 + bytes.len()) } else { None }
+            if bytes.len() < 1 << 32 {
+                Some(4 + bytes.len())
+            } else {
+                None
+            }
         }
         Field::Plain(bytes) => {
-            if bytes.len() < 1 << 32 { Some(bytes.len()) } else { None }
+            if bytes.len() < 1 << 32 {
+                Some(bytes.len())
+            } else {
+                None
+            }
         }
     }
 }

@@ -29,7 +29,7 @@ line-forth {B} f tag body ht hl =
     let right : eqb (4 + length body) (length (number 4 tag ++ body)) ≡ true = grind (arith, tells) in
     ap (lineIn f) (line-is tag body)
     ∙ then-forth (number-laws 4) (4 + length body) (number 4 tag ++ body) (λ n l. cond (eqb n (length l)) (numberIn 4 l then f) None) (f tag body) hl
-      (ap (λ (b : Bool). cond b (numberIn 4 (number 4 tag ++ body) then f) None) right ∙ then-forth (number-laws 4) tag body f (f tag body) ht refl)
+    (ap (λ (b : Bool). cond b (numberIn 4 (number 4 tag ++ body) then f) None) right ∙ then-forth (number-laws 4) tag body f (f tag body) ht refl)
 
 -- what a line that is read comes to
 pub record Line {B : Type 0} (f : ℕ → List ℕ → Option B) (l : List ℕ) (b : B) : Type 0 where
@@ -69,9 +69,10 @@ line-back {B} f l b bs e =
     let whole : l ≡ number 4 (4 + length body) ++ (number 4 tag ++ body) = k .0 ∙ ap (λ (x : List ℕ). number 4 n ++ x) (m .0) ∙ ap (λ (j : ℕ). number 4 j ++ (number 4 tag ++ body)) long in
     let tag-as : tagOf l ≡ tag = ap tagOf whole ∙ tag-is (4 + length body) tag body (m .1) in
     record {
-        body = body;
-        is = whole ∙ sym (line-is tag body) ∙ ap (λ (j : ℕ). lineOf j body) (sym tag-as);
-        tag-fits = subst (λ (j : ℕ). NumberFits 4 j) (sym tag-as) (m .1);
-        length-fits = subst (λ (j : ℕ). NumberFits 4 j) long (k .1);
-        bytes = m .2;
-        reads = ap (λ (j : ℕ). f j body) tag-as ∙ v .2 }
+      body = body;
+      is = whole ∙ sym (line-is tag body) ∙ ap (λ (j : ℕ). lineOf j body) (sym tag-as);
+      tag-fits = subst (λ (j : ℕ). NumberFits 4 j) (sym tag-as) (m .1);
+      length-fits = subst (λ (j : ℕ). NumberFits 4 j) long (k .1);
+      bytes = m .2;
+      reads = ap (λ (j : ℕ). f j body) tag-as ∙ v .2;
+    }

@@ -55,6 +55,9 @@ answers-were-written l t b e =
     let v = tag-some (tagOf l) (replyIn (u .0 .value) (u .0 .rest)) t (u .2) in
     let k = number-laws 1 .back (line .body) (u .0 .value) (u .0 .rest) (line .bytes) (u .1) in
     let r-is = answers.answer-back (u .0 .value) .says (u .0 .rest) (t .reply) (k .2) (v .1) in
-    let body : line .body ≡ replyBytes (t .reply) = k .0 ∙ sym (r-is .0) in
-    (line .is ∙ ap (λ (x : List ℕ). lineOf (tagOf l) x) body ∙ ap (λ (n : ℕ). lineOf n (replyBytes (t .reply))) (v .0), v .0,
-     subst (λ (n : ℕ). NumberFits 4 n) (v .0) (line .tag-fits), (r-is .1, subst (λ (x : List ℕ). NumberFits 4 (4 + length x)) body (line .length-fits)))
+    let body : line .body ≡ replyBytes (t .reply) = k .0 ∙ sym (r-is .0) in (
+      line .is ∙ ap (λ (x : List ℕ). lineOf (tagOf l) x) body ∙ ap (λ (n : ℕ). lineOf n (replyBytes (t .reply))) (v .0),
+      v .0,
+      subst (λ (n : ℕ). NumberFits 4 n) (v .0) (line .tag-fits),
+      (r-is .1, subst (λ (x : List ℕ). NumberFits 4 (4 + length x)) body (line .length-fits)),
+    )

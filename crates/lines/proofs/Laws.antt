@@ -85,10 +85,11 @@ number-back k l n rest b e =
     let t = test-some _ (took (value k l) (drop k l)) (took n rest) e in
     let h : k ≤ length l = grind (arith, tells, t .0) in
     let v : value k l ≡ n = ap (λ (t : Took ℕ). t .value) (t .1) in
-    let r : drop k l ≡ rest = ap (λ (t : Took ℕ). t .rest) (t .1) in
-    (number-value k l b h ∙ ap (λ (m : ℕ). number k m ++ drop k l) v ∙ ap (λ (d : List ℕ). number k n ++ d) r,
-     subst (λ (m : ℕ). m < 256 ^ k) v (value-fits k l b),
-     subst (λ (d : List ℕ). Bytes d) r (bytes-drop k l b))
+    let r : drop k l ≡ rest = ap (λ (t : Took ℕ). t .rest) (t .1) in (
+      number-value k l b h ∙ ap (λ (m : ℕ). number k m ++ drop k l) v ∙ ap (λ (d : List ℕ). number k n ++ d) r,
+      subst (λ (m : ℕ). m < 256 ^ k) v (value-fits k l b),
+      subst (λ (d : List ℕ). Bytes d) r (bytes-drop k l b),
+    )
 
 pub number-laws : (k : ℕ) → Laws (number k) (numberIn k) (NumberFits k)
 number-laws k = record { forth = number-forth k; back = number-back k }
@@ -105,11 +106,12 @@ bytes-back n l bs rest b e =
     let t = test-some _ (took (take n l) (drop n l)) (took bs rest) e in
     let h : n ≤ length l = grind (arith, tells, t .0) in
     let v : take n l ≡ bs = ap (λ (t : Took (List ℕ)). t .value) (t .1) in
-    let r : drop n l ≡ rest = ap (λ (t : Took (List ℕ)). t .rest) (t .1) in
-    (sym (take-append-drop n l) ∙ ap (λ (x : List ℕ). x ++ drop n l) v ∙ ap (λ (x : List ℕ). bs ++ x) r,
-     ap length (sym v) ∙ length-take-le n l h,
-     subst (λ (x : List ℕ). Bytes x) v (bytes-take n l b),
-     subst (λ (x : List ℕ). Bytes x) r (bytes-drop n l b))
+    let r : drop n l ≡ rest = ap (λ (t : Took (List ℕ)). t .rest) (t .1) in (
+      sym (take-append-drop n l) ∙ ap (λ (x : List ℕ). x ++ drop n l) v ∙ ap (λ (x : List ℕ). bs ++ x) r,
+      ap length (sym v) ∙ length-take-le n l h,
+      subst (λ (x : List ℕ). Bytes x) v (bytes-take n l b),
+      subst (λ (x : List ℕ). Bytes x) r (bytes-drop n l b),
+    )
 
 -- go on behind a field that is there
 pub then-forth : {A B : Type 0} {write : A → List ℕ} {read : List ℕ → Option (Took A)} {Ok : A → Type 0} → Laws write read Ok → (a : A) (l : List ℕ) (f : A → List ℕ → Option B) (o : Option B) → Ok a → f a l ≡ o → (read (write a ++ l) then f) ≡ o
@@ -122,10 +124,11 @@ counted-back : (k : ℕ) (l bs rest : List ℕ) → Bytes l → countedIn k l �
 counted-back k l bs rest b e =
     let t = then-some (numberIn k l) (λ n rest. bytesIn n rest) (took bs rest) e in
     let n = number-back k l (t .0 .value) (t .0 .rest) b (t .1) in
-    let c = bytes-back (t .0 .value) (t .0 .rest) bs rest (n .2) (t .2) in
-    (n .0 ∙ ap (λ (x : List ℕ). number k (t .0 .value) ++ x) (c .0) ∙ ap (λ (m : ℕ). number k m ++ (bs ++ rest)) (sym (c .1)) ∙ sym (append-assoc (number k (length bs)) bs rest),
-     (subst (λ (m : ℕ). m < 256 ^ k) (sym (c .1)) (n .1), c .2),
-     c .3)
+    let c = bytes-back (t .0 .value) (t .0 .rest) bs rest (n .2) (t .2) in (
+      n .0 ∙ ap (λ (x : List ℕ). number k (t .0 .value) ++ x) (c .0) ∙ ap (λ (m : ℕ). number k m ++ (bs ++ rest)) (sym (c .1)) ∙ sym (append-assoc (number k (length bs)) bs rest),
+      (subst (λ (m : ℕ). m < 256 ^ k) (sym (c .1)) (n .1), c .2),
+      c .3,
+    )
 
 pub counted-laws : (k : ℕ) → Laws (counted k) (countedIn k) (CountedFits k)
 counted-laws k = record { forth = counted-forth k; back = counted-back k }
@@ -205,6 +208,7 @@ flag-laws = record { forth = forth; back = λ l a rest b e. back .says l (took a
     forth : (a : Bool) (l : List ℕ) → FlagFits a → flagIn (flag a ++ l) ≡ Some (took a l)
     forth true l ok = then-forth (number-laws 1) 1 l flagOf (Some (took true l)) (omega arith) refl
     forth false l ok = then-forth (number-laws 1) 0 l flagOf (Some (took false l)) (omega arith) refl
+
     back : Back (Field flag FlagFits) (λ l. l) flagIn
     back = then-back (number-laws 1) (λ l. l) flagOf (λ n h.
         kind-back _ n 0 _ _ (λ e. leaf-back _ _ (λ l b. (ap (λ (n : ℕ). number 1 n ++ l) e, tt, b)))
@@ -217,6 +221,7 @@ expected-laws = record { forth = forth; back = λ l a rest b e. back .says l (to
     forth Any l ok = then-forth (number-laws 1) 0 l expectedOf (Some (took Any l)) (omega arith) refl
     forth Absent l ok = then-forth (number-laws 1) 1 l expectedOf (Some (took Absent l)) (omega arith) refl
     forth (Is n) l ok = then-forth (number-laws 1) 2 (number 8 n ++ l) expectedOf (Some (took (Is n) l)) (omega arith) (then-forth (number-laws 8) n l (λ n l. Some (took (Is n) l)) (Some (took (Is n) l)) ok refl)
+
     back : Back (Field expected ExpectFits) (λ l. l) expectedIn
     back = then-back (number-laws 1) (λ l. l) expectedOf (λ n h.
         kind-back _ n 0 _ _ (λ e. leaf-back _ _ (λ l b. (ap (λ (n : ℕ). number 1 n ++ l) e, tt, b)))
@@ -227,25 +232,30 @@ expected-laws = record { forth = forth; back = λ l a rest b e. back .says l (to
 three-laws : {A : Type 0} (make : List ℕ → ℕ → ℕ → A) (key : A → List ℕ) (one two : A → ℕ) → ((x : A) → make (key x) (one x) (two x) ≡ x) →
     ((k : List ℕ) (m n : ℕ) → (key (make k m n) ≡ k) × (one (make k m n) ≡ m) × (two (make k m n) ≡ n)) →
     Laws (λ x. name (key x) ++ (number 8 (one x) ++ (number 8 (two x) ++ []))) (λ l. countedIn 1 l then (λ k l. numberIn 8 l then (λ m l. numberIn 8 l then (λ n l. Some (took (make k m n) l)))))
-      (λ x. CountedFits 1 (key x) × NumberFits 8 (one x) × NumberFits 8 (two x))
+    (λ x. CountedFits 1 (key x) × NumberFits 8 (one x) × NumberFits 8 (two x))
 three-laws {A} make key one two eta beta = record { forth = forth; back = λ l a rest b e. back .says l (took a rest) b e }
   where
     write : A → List ℕ
     write x = name (key x) ++ (number 8 (one x) ++ (number 8 (two x) ++ []))
+
     read : List ℕ → Option (Took A)
     read l = countedIn 1 l then (λ k l. numberIn 8 l then (λ m l. numberIn 8 l then (λ n l. Some (took (make k m n) l))))
+
     Ok : A → Type 0
     Ok x = CountedFits 1 (key x) × NumberFits 8 (one x) × NumberFits 8 (two x)
+
     forth : (x : A) (l : List ℕ) → Ok x → read (write x ++ l) ≡ Some (took x l)
     forth x l ok =
         ap read (append-assoc (name (key x)) (number 8 (one x) ++ (number 8 (two x) ++ [])) l)
         ∙ then-forth (counted-laws 1) (key x) (number 8 (one x) ++ (number 8 (two x) ++ l)) _ _ (ok .0)
-          (then-forth (number-laws 8) (one x) (number 8 (two x) ++ l) _ _ (ok .1)
-          (then-forth (number-laws 8) (two x) l _ _ (ok .2) (ap (λ (y : A). Some (took y l)) (eta x))))
+        (then-forth (number-laws 8) (one x) (number 8 (two x) ++ l) _ _ (ok .1)
+        (then-forth (number-laws 8) (two x) l _ _ (ok .2) (ap (λ (y : A). Some (took y l)) (eta x))))
+
     made : (k : List ℕ) (m n : ℕ) (l : List ℕ) → CountedFits 1 k → NumberFits 8 m → NumberFits 8 n → Bytes l → Field write Ok (took (make k m n) l) (name k ++ (number 8 m ++ (number 8 n ++ l)))
     made k m n l hk hm hn b =
         let e = beta k m n in
         rw (e .0, e .1, e .2) (sym (append-assoc (name k) (number 8 m ++ (number 8 n ++ [])) l), (hk, hm, hn), b)
+
     back : Back (Field write Ok) (λ l. l) read
     back = then-back (counted-laws 1) (λ l. l) _ (λ k hk. then-back (number-laws 8) _ _ (λ m hm. then-back (number-laws 8) _ _ (λ n hn. leaf-back _ _ (λ l b. made k m n l hk hm hn b))))
 
@@ -280,16 +290,18 @@ many-back {A} {write} {read} {Ok} laws (suc n) l xs rest b e =
     let more = many-back laws n (t .0 .rest) ys (u .0 .rest) (first .2) (u .1) in
     let s : took (x ∷ ys) (u .0 .rest) ≡ took xs rest = cc (u .2) in
     let xs-is : x ∷ ys ≡ xs = ap (λ (t : Took (List A)). t .value) s in
-    let rest-is : u .0 .rest ≡ rest = ap (λ (t : Took (List A)). t .rest) s in
-    (first .0 ∙ ap (λ (k : List ℕ). write x ++ k) (more .0) ∙ sym (append-assoc (write x) (many write ys) (u .0 .rest))
-     ∙ ap (λ (k : List ℕ). (write x ++ many write ys) ++ k) rest-is ∙ ap (λ (zs : List A). many write zs ++ rest) xs-is,
-     (ap length (sym xs-is) ∙ ap suc (more .1 .0), subst (λ (zs : List A). Each Ok zs) xs-is (first .1, more .1 .1)),
-     subst (λ (k : List ℕ). Bytes k) rest-is (more .2))
+    let rest-is : u .0 .rest ≡ rest = ap (λ (t : Took (List A)). t .rest) s in (
+      first .0 ∙ ap (λ (k : List ℕ). write x ++ k) (more .0) ∙ sym (append-assoc (write x) (many write ys) (u .0 .rest))
+          ∙ ap (λ (k : List ℕ). (write x ++ many write ys) ++ k) rest-is ∙ ap (λ (zs : List A). many write zs ++ rest) xs-is,
+      (ap length (sym xs-is) ∙ ap suc (more .1 .0), subst (λ (zs : List A). Each Ok zs) xs-is (first .1, more .1 .1)),
+      subst (λ (k : List ℕ). Bytes k) rest-is (more .2),
+    )
 
 pub many-laws : {A : Type 0} {write : A → List ℕ} {read : List ℕ → Option (Took A)} {Ok : A → Type 0} → Laws write read Ok → (n : ℕ) → Laws (many write) (manyIn read n) (λ xs. (length xs ≡ n) × Each Ok xs)
 many-laws {write = write} {read} laws n = record {
-    forth = λ xs l ok. ap (λ (m : ℕ). manyIn read m (many write xs ++ l)) (sym (ok .0)) ∙ many-forth laws xs l (ok .1);
-    back = many-back laws n }
+  forth = λ xs l ok. ap (λ (m : ℕ). manyIn read m (many write xs ++ l)) (sym (ok .0)) ∙ many-forth laws xs l (ok .1);
+  back = many-back laws n;
+}
 
 -- just n of a kind are those that are read, and no other bytes
 pub all-written : {A : Type 0} {write : A → List ℕ} {read : List ℕ → Option (Took A)} {Ok : A → Type 0} → Laws write read Ok → (n : ℕ) (l : List ℕ) → Bytes l → areMany read n l ≡ true →

@@ -31,21 +31,75 @@ pub struct Rule<'a> {
 
 #[derive(Clone, Copy)]
 pub enum Call<'a> {
-    MakeRoom { name: &'a [u8], keeps: bool },
-    DropRoom { name: &'a [u8] },
-    Put { room: &'a [u8], key: &'a [u8], expected: Expected, bytes: &'a [u8] },
-    Get { room: &'a [u8], key: &'a [u8], number: u64, from: u64, most: u32 },
-    Remove { room: &'a [u8], key: &'a [u8], number: u64 },
-    Look { room: &'a [u8], beginning: &'a [u8], after: &'a [u8], most: u16 },
-    Versions { room: &'a [u8], key: &'a [u8] },
-    Begin { room: &'a [u8], key: &'a [u8] },
-    Part { room: &'a [u8], upload: u64, place: u16, bytes: &'a [u8] },
-    Complete { room: &'a [u8], upload: u64, expected: Expected },
-    Abort { room: &'a [u8], upload: u64 },
-    Hold { room: &'a [u8], key: &'a [u8], number: u64, until: u64 },
+    MakeRoom {
+        name: &'a [u8],
+        keeps: bool,
+    },
+    DropRoom {
+        name: &'a [u8],
+    },
+    Put {
+        room: &'a [u8],
+        key: &'a [u8],
+        expected: Expected,
+        bytes: &'a [u8],
+    },
+    Get {
+        room: &'a [u8],
+        key: &'a [u8],
+        number: u64,
+        from: u64,
+        most: u32,
+    },
+    Remove {
+        room: &'a [u8],
+        key: &'a [u8],
+        number: u64,
+    },
+    Look {
+        room: &'a [u8],
+        beginning: &'a [u8],
+        after: &'a [u8],
+        most: u16,
+    },
+    Versions {
+        room: &'a [u8],
+        key: &'a [u8],
+    },
+    Begin {
+        room: &'a [u8],
+        key: &'a [u8],
+    },
+    Part {
+        room: &'a [u8],
+        upload: u64,
+        place: u16,
+        bytes: &'a [u8],
+    },
+    Complete {
+        room: &'a [u8],
+        upload: u64,
+        expected: Expected,
+    },
+    Abort {
+        room: &'a [u8],
+        upload: u64,
+    },
+    Hold {
+        room: &'a [u8],
+        key: &'a [u8],
+        number: u64,
+        until: u64,
+    },
     // The rules as they stand on the line: next_rule takes them off one by one.
-    Rules { room: &'a [u8], count: u8, rules: &'a [u8] },
-    Time { ms: u64 },
+    Rules {
+        room: &'a [u8],
+        count: u8,
+        rules: &'a [u8],
+    },
+    Time {
+        ms: u64,
+    },
 }
 
 fn expected_in(bytes: &[u8]) -> Option<(Expected, &[u8])>
@@ -95,7 +149,15 @@ fn put(fields: &[u8]) -> Option<Call<'_>>
     let (key, rest) = name_in(rest)?;
     let (expected, rest) = expected_in(rest)?;
     let (bytes, rest) = content_in(rest)?;
-    ended(rest, Call::Put { room, key, expected, bytes })
+    ended(
+        rest,
+        Call::Put {
+            room,
+            key,
+            expected,
+            bytes,
+        },
+    )
 }
 
 fn get(fields: &[u8]) -> Option<Call<'_>>
@@ -106,7 +168,16 @@ fn get(fields: &[u8]) -> Option<Call<'_>>
     let (number, rest) = u64_in(rest)?;
     let (from, rest) = u64_in(rest)?;
     let (most, rest) = u32_in(rest)?;
-    ended(rest, Call::Get { room, key, number, from, most })
+    ended(
+        rest,
+        Call::Get {
+            room,
+            key,
+            number,
+            from,
+            most,
+        },
+    )
 }
 
 fn remove(fields: &[u8]) -> Option<Call<'_>>
@@ -125,7 +196,15 @@ fn look(fields: &[u8]) -> Option<Call<'_>>
     let (beginning, rest) = name_in(rest)?;
     let (after, rest) = name_in(rest)?;
     let (most, rest) = u16_in(rest)?;
-    ended(rest, Call::Look { room, beginning, after, most })
+    ended(
+        rest,
+        Call::Look {
+            room,
+            beginning,
+            after,
+            most,
+        },
+    )
 }
 
 fn versions(fields: &[u8]) -> Option<Call<'_>>
@@ -151,7 +230,15 @@ fn part(fields: &[u8]) -> Option<Call<'_>>
     let (upload, rest) = u64_in(rest)?;
     let (place, rest) = u16_in(rest)?;
     let (bytes, rest) = content_in(rest)?;
-    ended(rest, Call::Part { room, upload, place, bytes })
+    ended(
+        rest,
+        Call::Part {
+            room,
+            upload,
+            place,
+            bytes,
+        },
+    )
 }
 
 fn complete(fields: &[u8]) -> Option<Call<'_>>
@@ -160,7 +247,14 @@ fn complete(fields: &[u8]) -> Option<Call<'_>>
     let (room, rest) = name_in(fields)?;
     let (upload, rest) = u64_in(rest)?;
     let (expected, rest) = expected_in(rest)?;
-    ended(rest, Call::Complete { room, upload, expected })
+    ended(
+        rest,
+        Call::Complete {
+            room,
+            upload,
+            expected,
+        },
+    )
 }
 
 fn abort(fields: &[u8]) -> Option<Call<'_>>
@@ -178,7 +272,15 @@ fn hold(fields: &[u8]) -> Option<Call<'_>>
     let (key, rest) = name_in(rest)?;
     let (number, rest) = u64_in(rest)?;
     let (until, rest) = u64_in(rest)?;
-    ended(rest, Call::Hold { room, key, number, until })
+    ended(
+        rest,
+        Call::Hold {
+            room,
+            key,
+            number,
+            until,
+        },
+    )
 }
 
 // The first rule, and the bytes after it.
@@ -188,7 +290,14 @@ pub fn next_rule(rules: &[u8]) -> Option<(Rule<'_>, &[u8])>
     let (beginning, rest) = name_in(rules)?;
     let (lasts, rest) = u64_in(rest)?;
     let (older_last, rest) = u64_in(rest)?;
-    Some((Rule { beginning, lasts, older_last }, rest))
+    Some((
+        Rule {
+            beginning,
+            lasts,
+            older_last,
+        },
+        rest,
+    ))
 }
 
 // Are these so many rules, and nothing else?

@@ -97,7 +97,11 @@ fn in_core(call: Call<'_>) -> bool
     ensures { λ r. ⌜ r ≡ core (means (call .entry)) ⌝ }
 {
     match call {
-        Call::MakeRoom { .. } | Call::DropRoom { .. } | Call::Put { .. } | Call::Look { .. } | Call::Time { .. } => true,
+        Call::MakeRoom { .. }
+        | Call::DropRoom { .. }
+        | Call::Put { .. }
+        | Call::Look { .. }
+        | Call::Time { .. } => true,
         Call::Get { number, .. } | Call::Remove { number, .. } => number == 0,
         _ => false,
     }
@@ -139,11 +143,21 @@ pub fn kind_of(line: &[u8]) -> Option<u8>
 fn read_within(longest: usize, line: &[u8]) -> Option<Call<'_>>
     ensures { λ r. ⌜ meant r ≡ callWithin longest (now (line .entry)) ⌝ }
 {
-    if longest < line.len() { None } else { read_call(line) }
+    if longest < line.len() {
+        None
+    } else {
+        read_call(line)
+    }
 }
 
 // The call on a line, or why it is turned away.
-pub fn turned_away(line: &[u8], built: Built, longest: usize, time: u64, next: u64) -> Result<Call<'_>, Refusal>
+pub fn turned_away(
+    line: &[u8],
+    built: Built,
+    longest: usize,
+    time: u64,
+    next: u64,
+) -> Result<Call<'_>, Refusal>
     ensures { λ r. ⌜ taken r ≡ heard (builtBy built) longest (now (line .entry)) time next ⌝ }
 {
     let kind = kind_of(line);

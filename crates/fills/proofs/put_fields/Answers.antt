@@ -23,18 +23,20 @@ loop-field-again c =
     let f = fieldBytes (at fs i) in
     let e = body-step fs i (c .loop-field-test .taken) in
     let n = ap length e ∙ length-append f (bodyBytes (drop (i + 1) fs)) in
-    let room : c .loop-field .at + length (f ++ bodyBytes (drop (i + 1) fs)) ≤ length (c .loop-field .out) = omega (arith, ap length e, c .loop-field .inv .1, c .pre .0) in
-    (ap (λ (k : ℕ). putAt k (bodyBytes (drop (i + 1) fs)) (c .put-field-at .last .out)) (c .put-field-at .ensures .at)
-     ∙ ap (λ (l : List ℕ). putAt (c .loop-field .at + length f) (bodyBytes (drop (i + 1) fs)) l) (c .put-field-at .ensures .out)
-     ∙ put-put (c .loop-field .at) f (bodyBytes (drop (i + 1) fs)) (c .loop-field .out) room
-     ∙ ap (λ (l : List ℕ). putAt (c .loop-field .at) l (c .loop-field .out)) (sym e)
-     ∙ c .loop-field .inv .0,
-     omega (arith, n, c .loop-field .inv .1, c .put-field-at .ensures .at),
-     fit-step fs i (c .loop-field-test .taken) (c .loop-field .inv .2) .1)
+    let room : c .loop-field .at + length (f ++ bodyBytes (drop (i + 1) fs)) ≤ length (c .loop-field .out) = omega (arith, ap length e, c .loop-field .inv .1, c .pre .0) in (
+      ap (λ (k : ℕ). putAt k (bodyBytes (drop (i + 1) fs)) (c .put-field-at .last .out)) (c .put-field-at .ensures .at)
+          ∙ ap (λ (l : List ℕ). putAt (c .loop-field .at + length f) (bodyBytes (drop (i + 1) fs)) l) (c .put-field-at .ensures .out)
+          ∙ put-put (c .loop-field .at) f (bodyBytes (drop (i + 1) fs)) (c .loop-field .out) room
+          ∙ ap (λ (l : List ℕ). putAt (c .loop-field .at) l (c .loop-field .out)) (sym e)
+          ∙ c .loop-field .inv .0,
+      omega (arith, n, c .loop-field .inv .1, c .put-field-at .ensures .at),
+      fit-step fs i (c .loop-field-test .taken) (c .loop-field .inv .2) .1,
+    )
 
 pub returns : need.returns
 returns c =
     let e = ap bodyBytes (drop-all (c .loop-field .field-index) (c .args .fields .now) (c .loop-field-test .left)) ∙ body-none in
     record {
-        at = omega (arith, ap length e, c .loop-field .inv .1);
-        out = sym (ap (λ (l : List ℕ). putAt (c .loop-field .at) l (c .loop-field .out)) e ∙ put-none (c .loop-field .at) (c .loop-field .out)) ∙ c .loop-field .inv .0 }
+      at = omega (arith, ap length e, c .loop-field .inv .1);
+      out = sym (ap (λ (l : List ℕ). putAt (c .loop-field .at) l (c .loop-field .out)) e ∙ put-none (c .loop-field .at) (c .loop-field .out)) ∙ c .loop-field .inv .0;
+    }

@@ -33,8 +33,8 @@ returns c =
     let room : length (lineOf tag body) ≤ length out = omega (arith, told .1) in
     let n : c .put-fields .result ≡ length (lineOf tag body) = omega (arith, c .put-fields .ensures .at, c .put-u32-at .ensures .at, c .put-u32-at-2 .ensures .at) in
     let now : c .put-fields .last .out ≡ putAt (c .put-u32-at-2 .result) body (putAt (c .put-u32-at .result) (number 4 tag) (putAt 0 (number 4 (4 + length body)) out)) =
-        c .put-fields .ensures .out
-        ∙ ap (λ (l : List ℕ). putAt (c .put-u32-at-2 .result) body l) (c .put-u32-at-2 .ensures .out
-          ∙ ap (λ (l : List ℕ). putAt (c .put-u32-at .result) (number 4 tag) l) (c .put-u32-at .ensures .out ∙ ap (λ (k : ℕ). putAt 0 (number 4 k) out) (told .1))) in
+    c .put-fields .ensures .out
+    ∙ ap (λ (l : List ℕ). putAt (c .put-u32-at-2 .result) body l) (c .put-u32-at-2 .ensures .out
+    ∙ ap (λ (l : List ℕ). putAt (c .put-u32-at .result) (number 4 tag) l) (c .put-u32-at .ensures .out ∙ ap (λ (k : ℕ). putAt 0 (number 4 k) out) (told .1))) in
     goes (lineFits fs) (lineOf tag body) out (c .put-fields .result) (c .put-fields .last .out) (told .0) room n
     (now ∙ put-line (number 4 (4 + length body)) (number 4 tag) body out (c .put-u32-at .result) (c .put-u32-at-2 .result) (c .put-u32-at .ensures .at) (c .put-u32-at-2 .ensures .at) room)
