@@ -154,7 +154,7 @@ fn admit_all(drives: &mut [Drive; 6], seen: &[Seen; 6], sectors: u64)
 pub struct Drives {
     at: [Drive; 6],
     // of each drive; 0 while it isn't known
-    sectors: u64,
+    pub sectors: u64,
 }
 
 impl Drives {
@@ -165,12 +165,6 @@ impl Drives {
             at: [Drive::Unseen; 6],
             sectors: 0,
         }
-    }
-
-    pub fn sectors(&self) -> u64
-        ensures { λ r. ⌜ r ≡ now (self .entry) .sectors ⌝ }
-    {
-        self.sectors
     }
 
     // Drive `i`; there is none past the sixth.

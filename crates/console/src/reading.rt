@@ -1,6 +1,6 @@
 // Lines of text from a reader, within a bounded memory.
 ghost use mathlib.Core.Path.{_≡_};
-ghost use mathlib.Core.Bool.{cond};
+ghost use mathlib.Core.Bool.{cond, false};
 ghost use Prim.Native.Nat.{_+_, _≤_};
 ghost use lib.ListN.{length};
 ghost use Rattle.std.specs.Of.Vec.{vec-len, vec-items};
@@ -50,7 +50,7 @@ fn through_end(bytes: &[u8]) -> usize
 
 impl TextLine {
     pub fn new(heap: Global) -> TextLine
-        ensures { λ r. ⌜ vec-len (r .text) ≡ 0 ⌝ }
+        ensures { λ r. ⌜ (vec-len (r .text) ≡ 0) × (r .«too_long» ≡ false) ⌝ }
     {
         TextLine {
             text: Vec::new(heap),

@@ -76,10 +76,8 @@ impl<L: Stepper<Call = register::Call, Reply = register::Reply>> House<L> {
         ensures { λ r. ⌜ r .longest ≡ longest ⌝ }
     {
         let upper = Clock { time: 0, tag: 0, phase: Phase::Rising };
-        House {
-            stack: Stack { upper, lower, doing: Doing::Opens },
-            longest,
-        }
+        let stack = Stack { upper, lower, doing: Doing::Opens };
+        House { stack, longest }
     }
 
     // Comes up on drives of a size.

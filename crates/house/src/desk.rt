@@ -94,7 +94,7 @@ impl Desk {
             return Ok(false);
         }
         if !self.up {
-            self.house.open(&mut self.lent, &mut self.files, self.drives.sectors());
+            self.house.open(&mut self.lent, &mut self.files, self.drives.sectors);
             self.up = true;
             return self.stands(rt, out);
         }
@@ -153,7 +153,7 @@ impl Desk {
 
     pub fn status(&mut self, rt: &LibcRuntime, out: &mut Vec<u8>) -> io::Result<()> {
         self.look(rt)?;
-        let sectors = self.drives.sectors();
+        let sectors = self.drives.sectors;
         let words = format!(rt.alloc(), "status: {sectors} sectors")?;
         out.extend_from_slice(words.as_bytes())?;
         for i in 0..6 {

@@ -1,4 +1,7 @@
 // The six drive files of a house, in the current folder. Nothing can be proved of what a file holds, so little is promised here.
+ghost use mathlib.Core.Path.{_≡_};
+ghost use mathlib.Core.Bool.{false};
+ghost use Rattle.std.specs.Options.{isSome};
 ghost use Rattle.drives.specs.Drives.{gone};
 use bays::Drives;
 use bays::Label;
@@ -103,12 +106,16 @@ fn see(file: &mut File) -> io::Result<Seen> {
 }
 
 impl DriveFiles {
-    pub fn none() -> DriveFiles {
+    pub fn none() -> DriveFiles
+        ensures { λ r. ⌜ isSome (r .failed) ≡ false ⌝ }
+    {
         DriveFiles { at: [None, None, None, None, None, None], failed: None }
     }
 
     // Has the power gone off.
-    pub fn is_off(&self) -> bool {
+    pub fn is_off(&self) -> bool
+        ensures { λ r. ⌜ r ≡ isSome (now (self .entry) .failed) ⌝ }
+    {
         self.failed.is_some()
     }
 
