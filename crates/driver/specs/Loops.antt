@@ -24,3 +24,7 @@ performed Done lent d = record { got = []; drives = d }
 -- the program p, run on d, answers a and leaves e
 abbrev pub Leaves : {A : Type 0} → Io A → Drives → A → Drives → Type 0
 Leaves p d a e = run p d ≡ record { value = a; drives = e }
+
+-- the program p, run on d, answers what V allows and leaves e
+abbrev pub Ends : {A : Type 0} → (A → Type 0) → Io A → Drives → Drives → Type 0
+Ends V p d e = V (run p d .value) × (run p d .drives ≡ e)

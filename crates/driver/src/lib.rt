@@ -4,10 +4,10 @@ ghost use mathlib.Core.Bool.{cond};
 ghost use mathlib.Core.List.{List, []};
 ghost use Prim.Native.Nat.{ℕ, _≤_};
 ghost use lib.ListN.{take};
-ghost use Rattle.drives.specs.Drives.{Drives, shown, put, writtenTo, syncedOne};
+ghost use Rattle.drives.specs.Drives.{Drives, shown, put, writtenTo, syncedOne, smallest, largest};
 ghost use Rattle.drives.specs.Machines.{Machine};
 ghost use Rattle.steps.specs.Steps.{Held, Stepped, first, runs, machineOf};
-ghost use Rattle.driver.specs.Loops.{Performed, performed, Leaves};
+ghost use Rattle.driver.specs.Loops.{Performed, performed, Leaves, Ends};
 use steps::Ask;
 use steps::Lent;
 use steps::machines::Stepper;
@@ -74,7 +74,8 @@ fn finish<M: Stepper, D: Disks>(m: &mut M, lent: &mut Lent, d: &mut D, most: u64
 
 // Comes up on drives of a size.
 pub fn open<M: Stepper, D: Disks>(m: &mut M, lent: &mut Lent, d: &mut D, size: u64, most: u64)
-    ensures { λ _. ⌜ (D·Disks .known (now (d .entry)) → D·Disks .known (now (d .exit)) × Leaves (machineOf (M·Stepper .code) most .opens size) (D·Disks .model (now (d .entry))) (record { me = M·Stepper .view (now (m .exit)); lent = now (lent .exit) }) (D·Disks .model (now (d .exit)))) ⌝ }
+    ensures code { λ _. ⌜ (D·Disks .known (now (d .entry)) → D·Disks .known (now (d .exit)) × Leaves (machineOf (M·Stepper .code) most .opens size) (D·Disks .model (now (d .entry))) (record { me = M·Stepper .view (now (m .exit)); lent = now (lent .exit) }) (D·Disks .model (now (d .exit)))) ⌝ }
+    ensures read { λ _. ⌜ (D·Disks .known (now (d .entry)) → smallest ≤ size → size ≤ largest → M·Stepper .most ≤ most → Ends (M·Stepper .same size (record { me = M·Stepper .view (now (m .exit)); lent = now (lent .exit) })) (M·Stepper .machine .opens size) (D·Disks .model (now (d .entry))) (D·Disks .model (now (d .exit)))) ⌝ }
 {
     lent.clear();
     m.open(size);
@@ -83,7 +84,8 @@ pub fn open<M: Stepper, D: Disks>(m: &mut M, lent: &mut Lent, d: &mut D, size: u
 
 // Answers a call.
 pub fn call<M: Stepper, D: Disks>(m: &mut M, lent: &mut Lent, d: &mut D, c: M::Call, most: u64) -> M::Reply
-    ensures { λ r. ⌜ (D·Disks .known (now (d .entry)) → D·Disks .known (now (d .exit)) × Leaves (machineOf (M·Stepper .code) most .does c (record { me = M·Stepper .view (now (m .entry)); lent = now (lent .entry) })) (D·Disks .model (now (d .entry))) (record { reply = r; mem = record { me = M·Stepper .view (now (m .exit)); lent = now (lent .exit) } }) (D·Disks .model (now (d .exit)))) ⌝ }
+    ensures code { λ r. ⌜ (D·Disks .known (now (d .entry)) → D·Disks .known (now (d .exit)) × Leaves (machineOf (M·Stepper .code) most .does c (record { me = M·Stepper .view (now (m .entry)); lent = now (lent .entry) })) (D·Disks .model (now (d .entry))) (record { reply = r; mem = record { me = M·Stepper .view (now (m .exit)); lent = now (lent .exit) } }) (D·Disks .model (now (d .exit)))) ⌝ }
+    ensures read { λ r. ⌜ (D·Disks .known (now (d .entry)) → (size : ℕ) (x : M·Stepper .machine .Mem) → smallest ≤ size → size ≤ largest → M·Stepper .most ≤ most → M·Stepper .same size (record { me = M·Stepper .view (now (m .entry)); lent = now (lent .entry) }) x → Ends (λ y. (r ≡ y .reply) × M·Stepper .same size (record { me = M·Stepper .view (now (m .exit)); lent = now (lent .exit) }) (y .mem)) (M·Stepper .machine .does c x) (D·Disks .model (now (d .entry))) (D·Disks .model (now (d .exit)))) ⌝ }
 {
     m.begin(c);
     finish(m, lent, d, most);
@@ -92,7 +94,8 @@ pub fn call<M: Stepper, D: Disks>(m: &mut M, lent: &mut Lent, d: &mut D, c: M::C
 
 // Does one stretch of mending; says whether all is whole.
 pub fn mend<M: Stepper, D: Disks>(m: &mut M, lent: &mut Lent, d: &mut D, most: u64) -> bool
-    ensures { λ r. ⌜ (D·Disks .known (now (d .entry)) → D·Disks .known (now (d .exit)) × Leaves (machineOf (M·Stepper .code) most .mends (record { me = M·Stepper .view (now (m .entry)); lent = now (lent .entry) })) (D·Disks .model (now (d .entry))) (record { whole = r; mem = record { me = M·Stepper .view (now (m .exit)); lent = now (lent .exit) } }) (D·Disks .model (now (d .exit)))) ⌝ }
+    ensures code { λ r. ⌜ (D·Disks .known (now (d .entry)) → D·Disks .known (now (d .exit)) × Leaves (machineOf (M·Stepper .code) most .mends (record { me = M·Stepper .view (now (m .entry)); lent = now (lent .entry) })) (D·Disks .model (now (d .entry))) (record { whole = r; mem = record { me = M·Stepper .view (now (m .exit)); lent = now (lent .exit) } }) (D·Disks .model (now (d .exit)))) ⌝ }
+    ensures read { λ r. ⌜ (D·Disks .known (now (d .entry)) → (size : ℕ) (x : M·Stepper .machine .Mem) → smallest ≤ size → size ≤ largest → M·Stepper .most ≤ most → M·Stepper .same size (record { me = M·Stepper .view (now (m .entry)); lent = now (lent .entry) }) x → Ends (λ y. (r ≡ y .whole) × M·Stepper .same size (record { me = M·Stepper .view (now (m .exit)); lent = now (lent .exit) }) (y .mem)) (M·Stepper .machine .mends x) (D·Disks .model (now (d .entry))) (D·Disks .model (now (d .exit)))) ⌝ }
 {
     m.mend();
     finish(m, lent, d, most);

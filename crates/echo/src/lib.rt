@@ -1,8 +1,18 @@
 // The smallest machine and layer, to copy from: a machine that copies one sector of drive 0 to drive 1, and a layer over it that copies two.
 ghost use mathlib.Core.Path.{_≡_};
 ghost use Rattle.echo.specs.Echoes.{echoCode, echoes, echoSame};
+ghost use Rattle.echo.specs.Twices.{twiceCode, twices, twiceSame};
+ghost use Rattle.drives.specs.Layers.{over};
+ghost use Rattle.steps.specs.Steps.{Ample};
+ghost use Rattle.steps.specs.Stacks.{Asked};
+ghost use Rattle.driver.specs.Loops.{Ends};
+use driver::Disks;
 use steps::Ask;
 use steps::Lent;
+use steps::Next;
+use steps::Stack;
+use steps::layers::Planner;
+use steps::layers::StackStepper;
 use steps::machines::Stepper;
 
 #[derive(Clone, Copy)]
@@ -86,4 +96,78 @@ pub impl Stepper for Echo as EchoStepper {
     fn is_whole(&self) -> bool {
         true
     }
+}
+
+#[derive(Clone, Copy)]
+pub enum Twice {
+    Begun { sector: u64 },
+    First,
+    Second,
+    Over { ok: bool },
+}
+
+pub impl Planner for Twice as TwicePlanner {
+    type Call = u64;
+    type Reply = bool;
+    type Outer = u64;
+    type Answer = bool;
+    type State = Twice;
+
+    ghost view = { λ t. t };
+
+    ghost code = { twiceCode };
+
+    ghost layer = { twices };
+
+    ghost most = { 3 };
+
+    ghost same = { twiceSame };
+
+    fn open(&mut self, size: u64) {
+        *self = Twice::Over { ok: false };
+    }
+
+    fn begin(&mut self, c: u64) {
+        *self = Twice::Begun { sector: c };
+    }
+
+    fn turn(&mut self, reply: Option<bool>) -> Next<u64>
+        ensures { λ r. ⌜ record { me = now (self .exit); next = r } ≡ twiceCode .turns (now (self .entry)) reply ⌝ }
+    {
+        let ok = reply.unwrap_or(false);
+        match *self {
+            Twice::Begun { sector } => {
+                *self = Twice::First;
+                Next::Call(sector)
+            }
+            Twice::First => {
+                if ok {
+                    *self = Twice::Second;
+                    Next::Call(7)
+                } else {
+                    *self = Twice::Over { ok: false };
+                    Next::Ready
+                }
+            }
+            Twice::Second => {
+                *self = Twice::Over { ok };
+                Next::Ready
+            }
+            Twice::Over { ok: _ } => Next::Ready,
+        }
+    }
+
+    fn reply(&self) -> bool {
+        match *self {
+            Twice::Over { ok } => ok,
+            _ => false,
+        }
+    }
+}
+
+// The layer over the machine, run on drives.
+pub fn copy_two<D: Disks>(m: &mut Stack<Twice, Echo>, lent: &mut Lent, d: &mut D, c: u64) -> bool
+    ensures { λ r. ⌜ (D·Disks .known (now (d .entry)) → Ample (now (lent .entry)) → Ends (λ y. r ≡ y .reply) (over echoes twices .does c (record { below = tt; above = tt })) (D·Disks .model (now (d .entry))) (D·Disks .model (now (d .exit)))) ⌝ }
+{
+    driver::call(m, lent, d, c, 1000)
 }
