@@ -4,7 +4,7 @@ use mathlib.Core.Path.{_≡_}
 use mathlib.Core.Bool.{Bool, true, false, cond}
 use mathlib.Core.List.{List, [], _∷_, reverse}
 use Prim.Native.Nat.{ℕ}
-use lib.Dec.{eqb}
+use lib.Dec.{eqb, ltb}
 use lib.ListN.{getD}
 use Rattle.std.specs.Keys.{unsigned}
 use Rattle.std.specs.BTreeMap as tree
@@ -49,4 +49,4 @@ slotOf (Some d) = there (driveOf d)
 
 -- the drives, by their numbers; past the sixth there are none
 abbrev pub slots : List (Option Sectors) → ℕ → Slot
-slots ds i = slotOf (getD ds i None)
+slots ds i = cond (ltb i 6) (slotOf (getD ds i None)) gone

@@ -5,7 +5,7 @@ ghost use mathlib.Core.Bool.{cond, false};
 ghost use Prim.Native.Nat.{ℕ};
 ghost use lib.Dec.{eqb};
 ghost use Rattle.drives.specs.Drives.{blankDrive, there, shown, writtenTo, syncedOne, CutSlot};
-ghost use Rattle.simdrives.specs.Sims.{bytesBefore, holdsAt, driveOf};
+ghost use Rattle.simdrives.specs.Sims.{bytesBefore, holdsAt, driveOf, slotOf};
 use crate::choices::Choice;
 use crate::sectors::Before;
 use crate::sectors::Sectors;
@@ -121,5 +121,49 @@ fn one_less(counts: &mut BTreeMap<u64, u64>, sector: u64) -> bool {
             true
         }
         None => false,
+    }
+}
+
+// What a write makes of a drive that may be gone, and whether there was memory for it.
+pub fn written(
+    slot: Option<Sectors>,
+    heap: Global,
+    sector: u64,
+    bytes: &[u8; 512],
+) -> (Option<Sectors>, bool)
+    ensures { λ r. ⌜ slotOf (r .0) ≡ cond (r .1) (writtenTo sector (now (bytes .entry)) (slotOf slot)) (slotOf slot) ⌝ }
+{
+    match slot {
+        Some(mut d) => {
+            let done = d.write(heap, sector, bytes);
+            (Some(d), done)
+        }
+        None => (None, true),
+    }
+}
+
+// What a sync makes of it.
+pub fn synced(slot: Option<Sectors>) -> Option<Sectors>
+    ensures { λ r. ⌜ slotOf r ≡ syncedOne (slotOf slot) ⌝ }
+{
+    match slot {
+        Some(mut d) => {
+            d.sync();
+            Some(d)
+        }
+        None => None,
+    }
+}
+
+// What a cut may leave of it.
+pub fn after_cut(slot: Option<Sectors>, heap: Global, choice: &mut Choice) -> Option<Sectors>
+    ensures { λ r. ⌜ CutSlot (slotOf slot) (slotOf r) ⌝ }
+{
+    match slot {
+        Some(mut d) => {
+            d.cut(heap, choice);
+            Some(d)
+        }
+        None => None,
     }
 }

@@ -17,6 +17,9 @@ mod drive;
 mod sectors;
 
 pub use choices::Choice;
+use drive::after_cut;
+use drive::synced;
+use drive::written;
 use sectors::Sectors;
 
 // Whether what is asked is carried out: always, or so many times more, or no longer, since the power failed or memory did.
@@ -147,10 +150,8 @@ impl SimDrives {
         ensures here { λ _. ⌜ CutSlot (slots (now (self .entry) .drives) drive) (slots (now (self .exit) .drives) drive) ⌝ }
         ensures other { λ _. ⌜ ((i : ℕ) → (i ≡ drive → ⊥) → slots (now (self .exit) .drives) i ≡ slots (now (self .entry) .drives) i) ⌝ }
     {
-        if let Some(mut d) = std::mem::replace(&mut self.drives[drive], None) {
-            d.cut(self.heap, choice);
-            self.drives[drive] = Some(d);
-        }
+        let slot = std::mem::replace(&mut self.drives[drive], None);
+        self.drives[drive] = after_cut(slot, self.heap, choice);
     }
 
     // The power fails, and comes back.
@@ -218,11 +219,11 @@ impl SimDrives {
         }
         self.counts.writes = self.counts.writes.saturating_add(1);
         if drive < 6 {
-            if let Some(mut d) = std::mem::replace(&mut self.drives[drive], None) {
-                if !d.write(self.heap, sector, bytes) {
-                    self.power = Power::NoMemory;
-                }
-                self.drives[drive] = Some(d);
+            let slot = std::mem::replace(&mut self.drives[drive], None);
+            let (slot, done) = written(slot, self.heap, sector, bytes);
+            self.drives[drive] = slot;
+            if !done {
+                self.power = Power::NoMemory;
             }
         }
     }
@@ -236,10 +237,8 @@ impl SimDrives {
         }
         self.counts.syncs = self.counts.syncs.saturating_add(1);
         if drive < 6 {
-            if let Some(mut d) = std::mem::replace(&mut self.drives[drive], None) {
-                d.sync();
-                self.drives[drive] = Some(d);
-            }
+            let slot = std::mem::replace(&mut self.drives[drive], None);
+            self.drives[drive] = synced(slot);
         }
     }
 }
