@@ -1,0 +1,3 @@
+pub mod Sims
+pub mod Powers
+pub mod Chances

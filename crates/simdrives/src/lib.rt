@@ -1,0 +1,263 @@
+// Six drives in memory that can be lost, replaced and cut.
+ghost use mathlib.Core.Path.{_≡_};
+ghost use mathlib.Core.Bool.{Bool, cond, true, false};
+ghost use mathlib.Core.List.{List, []};
+ghost use Prim.Native.Nat.{ℕ, _<_};
+ghost use lib.Dec.{ltb};
+ghost use lib.ListN.{getD, length};
+ghost use Rattle.drives.specs.Drives.{Drives, gone, there, blankDrive, shown, writtenTo, syncedOne, put, AfterCut, CutSlot};
+ghost use Rattle.drives.specs.Machines.{isGone};
+ghost use Rattle.simdrives.specs.Sims.{slots};
+ghost use Rattle.simdrives.specs.Powers.{works, askedOf};
+use driver::Disks;
+use std::alloc::Global;
+
+mod choices;
+mod drive;
+mod sectors;
+
+pub use choices::Choice;
+use drive::after_cut;
+use drive::synced;
+use drive::written;
+use sectors::Sectors;
+
+// Whether what is asked is carried out: always, or so many times more, or no longer, since the power failed or memory did.
+#[derive(Clone, Copy, PartialEq, Eq)]
+pub enum Power {
+    On,
+    Fails(u64),
+    Off,
+    NoMemory,
+}
+
+// What was asked and carried out.
+#[derive(Clone, Copy)]
+pub struct Counts {
+    pub reads: u64,
+    pub writes: u64,
+    pub syncs: u64,
+}
+
+#[derive(Drop)]
+pub struct SimDrives {
+    drives: [Option<Sectors>; 6],
+    heap: Global,
+    power: Power,
+    counts: Counts,
+}
+
+const NONE: Counts = Counts {
+    reads: 0,
+    writes: 0,
+    syncs: 0,
+};
+
+impl SimDrives {
+    // Six blank drives.
+    pub fn new(heap: Global) -> SimDrives
+        ensures drives { λ r. ⌜ ((i : ℕ) → i < 6 → slots (r .drives) i ≡ there blankDrive) ⌝ }
+        ensures power { λ r. ⌜ r .power ≡ Power.On ⌝ }
+    {
+        SimDrives {
+            drives: [
+                Some(Sectors::new(heap)),
+                Some(Sectors::new(heap)),
+                Some(Sectors::new(heap)),
+                Some(Sectors::new(heap)),
+                Some(Sectors::new(heap)),
+                Some(Sectors::new(heap)),
+            ],
+            heap,
+            power: Power::On,
+            counts: NONE,
+        }
+    }
+
+    pub fn counts(&self) -> Counts
+        ensures { λ r. ⌜ r ≡ now (self .entry) .counts ⌝ }
+    {
+        self.counts
+    }
+
+    // Counts from 0 again.
+    pub fn count_anew(&mut self)
+        ensures { λ _. ⌜ now (self .exit) ≡ record { drives = now (self .entry) .drives; heap = now (self .entry) .heap; power = now (self .entry) .power; counts = record { reads = 0; writes = 0; syncs = 0 } } ⌝ }
+    {
+        self.counts = NONE;
+    }
+
+    pub fn power(&self) -> Power
+        ensures { λ r. ⌜ r ≡ now (self .entry) .power ⌝ }
+    {
+        self.power
+    }
+
+    // Whether what is asked is still carried out.
+    pub fn is_on(&self) -> bool
+        ensures { λ r. ⌜ r ≡ works (now (self .entry) .power) ⌝ }
+    {
+        match self.power {
+            Power::On => true,
+            Power::Fails(_) => true,
+            Power::Off => false,
+            Power::NoMemory => false,
+        }
+    }
+
+    // The power fails after that many more are carried out.
+    pub fn fail_after(&mut self, askings: u64)
+        ensures { λ _. ⌜ now (self .exit) ≡ record { drives = now (self .entry) .drives; heap = now (self .entry) .heap; power = Power.Fails askings; counts = now (self .entry) .counts } ⌝ }
+    {
+        self.power = Power::Fails(askings);
+    }
+
+    // Which drives are gone.
+    pub fn gone(&self) -> [bool; 6]
+        ensures { λ r. ⌜ ((i : ℕ) → i < 6 → getD r i true ≡ isGone (slots (now (self .entry) .drives) i)) ⌝ }
+    {
+        let mut gone = [false; 6];
+        for i in 0..6usize {
+            gone[i] = self.drives[i].is_none();
+        }
+        gone
+    }
+
+    pub fn lose(&mut self, drive: usize)
+        ensures { λ _. ⌜ slots (now (self .exit) .drives) ≡ put drive gone (slots (now (self .entry) .drives)) ⌝ }
+    {
+        if drive < 6 {
+            self.drives[drive] = None;
+        }
+    }
+
+    // A blank drive in the place of one that is gone; says whether it was.
+    pub fn replace(&mut self, drive: usize) -> bool
+        ensures test { λ r. ⌜ (r ≡ true → (drive < 6) × (slots (now (self .entry) .drives) drive ≡ gone)) ⌝ }
+        ensures drives { λ r. ⌜ slots (now (self .exit) .drives) ≡ cond r (put drive (there blankDrive) (slots (now (self .entry) .drives))) (slots (now (self .entry) .drives)) ⌝ }
+    {
+        if drive < 6 && self.drives[drive].is_none() {
+            self.drives[drive] = Some(Sectors::new(self.heap));
+            true
+        } else {
+            false
+        }
+    }
+
+    // Leaves what a cut may leave of one drive.
+    fn cut_one(&mut self, drive: usize, choice: &mut Choice)
+        requires { ⌜ drive < 6 ⌝ }
+        ensures here { λ _. ⌜ CutSlot (slots (now (self .entry) .drives) drive) (slots (now (self .exit) .drives) drive) ⌝ }
+        ensures other { λ _. ⌜ ((i : ℕ) → (i ≡ drive → ⊥) → slots (now (self .exit) .drives) i ≡ slots (now (self .entry) .drives) i) ⌝ }
+    {
+        let slot = std::mem::replace(&mut self.drives[drive], None);
+        self.drives[drive] = after_cut(slot, self.heap, choice);
+    }
+
+    // The power fails, and comes back.
+    pub fn cut(&mut self, choice: Choice)
+        ensures drives { λ _. ⌜ AfterCut (slots (now (self .entry) .drives)) (slots (now (self .exit) .drives)) ⌝ }
+        ensures power { λ _. ⌜ now (self .exit) .power ≡ Power.On ⌝ }
+    {
+        let mut choice = choice;
+        for i in 0..6usize {
+            self.cut_one(i, &mut choice);
+        }
+        self.power = Power::On;
+    }
+
+    // Whether the next is carried out.
+    fn carries_on(&mut self) -> bool
+        ensures test { λ r. ⌜ r ≡ works (askedOf (now (self .entry) .power)) ⌝ }
+        ensures after { λ _. ⌜ now (self .exit) ≡ record { drives = now (self .entry) .drives; heap = now (self .entry) .heap; power = askedOf (now (self .entry) .power); counts = now (self .entry) .counts } ⌝ }
+    {
+        match self.power {
+            Power::On => true,
+            Power::Fails(n) => {
+                self.power = if n == 0 {
+                    Power::Off
+                } else {
+                    Power::Fails(n - 1)
+                };
+                n > 0
+            }
+            Power::Off => false,
+            Power::NoMemory => false,
+        }
+    }
+
+    // Says whether there was a sector to be read, and that is so only while the power is on.
+    fn read_one(&mut self, drive: usize, sector: u64, into: &mut [u8; 512]) -> bool
+        ensures on { λ _. ⌜ now (self .exit) .power ≡ askedOf (now (self .entry) .power) ⌝ }
+        ensures same { λ _. ⌜ slots (now (self .exit) .drives) ≡ slots (now (self .entry) .drives) ⌝ }
+        ensures value { λ r. ⌜ cond r (now (into .exit)) [] ≡ cond (works (now (self .exit) .power)) (shown (slots (now (self .entry) .drives) drive) sector) [] ⌝ }
+    {
+        if !self.carries_on() {
+            return false;
+        }
+        self.counts.reads = self.counts.reads.saturating_add(1);
+        if drive < 6 {
+            match &self.drives[drive] {
+                Some(d) => {
+                    d.read(sector, into);
+                    true
+                }
+                None => false,
+            }
+        } else {
+            false
+        }
+    }
+
+    // Without memory nothing is written, and nothing more is carried out.
+    fn write_one(&mut self, drive: usize, sector: u64, bytes: &[u8; 512])
+        ensures on { λ _. ⌜ (works (now (self .exit) .power) ≡ true → now (self .exit) .power ≡ askedOf (now (self .entry) .power)) ⌝ }
+        ensures drives { λ _. ⌜ slots (now (self .exit) .drives) ≡ cond (works (now (self .exit) .power)) (put drive (writtenTo sector (now (bytes .entry)) (slots (now (self .entry) .drives) drive)) (slots (now (self .entry) .drives))) (slots (now (self .entry) .drives)) ⌝ }
+    {
+        if !self.carries_on() {
+            return;
+        }
+        self.counts.writes = self.counts.writes.saturating_add(1);
+        if drive < 6 {
+            let slot = std::mem::replace(&mut self.drives[drive], None);
+            let (slot, done) = written(slot, self.heap, sector, bytes);
+            self.drives[drive] = slot;
+            if !done {
+                self.power = Power::NoMemory;
+            }
+        }
+    }
+
+    fn sync_one(&mut self, drive: usize)
+        ensures on { λ _. ⌜ now (self .exit) .power ≡ askedOf (now (self .entry) .power) ⌝ }
+        ensures drives { λ _. ⌜ slots (now (self .exit) .drives) ≡ cond (works (now (self .exit) .power)) (put drive (syncedOne (slots (now (self .entry) .drives) drive)) (slots (now (self .entry) .drives))) (slots (now (self .entry) .drives)) ⌝ }
+    {
+        if !self.carries_on() {
+            return;
+        }
+        self.counts.syncs = self.counts.syncs.saturating_add(1);
+        if drive < 6 {
+            let slot = std::mem::replace(&mut self.drives[drive], None);
+            self.drives[drive] = synced(slot);
+        }
+    }
+}
+
+// Of drives that may fail at any time nothing is known beforehand, so the clauses of `Disks` say nothing here: what is carried out is said by `read_one`, `write_one` and `sync_one`.
+pub impl Disks for SimDrives as SimDisks {
+    ghost model = { λ s. slots (s .drives) };
+
+    ghost known = { λ _. ⊥ };
+
+    fn read(&mut self, drive: u8, sector: u64, into: &mut [u8; 512]) -> bool {
+        self.read_one(drive as usize, sector, into)
+    }
+
+    fn write(&mut self, drive: u8, sector: u64, bytes: &[u8; 512]) {
+        self.write_one(drive as usize, sector, bytes);
+    }
+
+    fn sync(&mut self, drive: u8) {
+        self.sync_one(drive as usize);
+    }
+}
