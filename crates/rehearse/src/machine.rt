@@ -1,19 +1,18 @@
-// The machine that is rehearsed. This one stands in until the house is built: it asks the drives for nothing and turns every line away.
+// The machine that is rehearsed: the very one that the house runs on files.
 use driver::Disks;
-use fills::Field;
-use fills::write_line;
-use lines::order::Built;
-use lines::order::Refusal;
-use lines::order::tag_of;
-use lines::order::turned_away;
+use front::House as Front;
+use recorder::Recorder;
+use recorder::RecorderStepper;
 use steps::Lent;
+use whole::answer_line;
+use whole::closed_house;
 
 // The longest line of bytes that memory can be lent for.
 pub const MOST_LENT: usize = 5_243_414;
 
 #[derive(Drop)]
 pub struct House {
-    longest: usize,
+    front: Front<Recorder>,
 }
 
 // The memory that is lent to the house.
@@ -23,22 +22,19 @@ pub fn lent() -> Lent {
 
 impl House {
     pub fn new(longest: usize) -> House {
-        House { longest }
+        House { front: closed_house(longest) }
     }
 
-    pub fn open<D: Disks>(&mut self, _lent: &mut Lent, _disks: &mut D, _size: u64) {}
+    pub fn open<D: Disks>(&mut self, lent: &mut Lent, disks: &mut D, size: u64) {
+        self.front.open(lent, disks, size);
+    }
 
     // Answers a line at the front of `out`, and says how long the answer is.
-    pub fn call<D: Disks>(&mut self, _lent: &mut Lent, _disks: &mut D, line: &[u8], out: &mut [u8]) -> usize {
-        let why = match turned_away(line, Built::Nothing, self.longest, 0, 1) {
-            Ok(_) => Refusal::NotBuilt,
-            Err(why) => why,
-        };
-        let fields = [Field::U8(0), Field::U8(why.number())];
-        write_line(tag_of(line), &fields, out).unwrap_or(0)
+    pub fn call<D: Disks>(&mut self, lent: &mut Lent, disks: &mut D, line: &[u8], out: &mut [u8]) -> usize {
+        answer_line(&mut self.front, lent, disks, line, out).unwrap_or(0)
     }
 
-    pub fn mend<D: Disks>(&mut self, _lent: &mut Lent, _disks: &mut D) -> bool {
-        true
+    pub fn mend<D: Disks>(&mut self, lent: &mut Lent, disks: &mut D) -> bool {
+        self.front.mend(lent, disks)
     }
 }
