@@ -5,7 +5,6 @@ ghost use mathlib.Core.List.{map};
 ghost use lib.ListN.{getD};
 ghost use Rattle.labels.specs.Times.{trusts};
 ghost use Rattle.steps.specs.declared.Lent.{Lent};
-ghost use Rattle.register.specs.Register.{register};
 ghost use Rattle.recorder.specs.Recording.{lowestIn, getsAtFirst, noted, decided, goes, readAll, readOn, writeOn, syncOn, payloadIn, fresh, budget, recorderCode, recorded, recorderSame, RecorderStands};
 use labels::Label;
 use labels::Record;
@@ -18,7 +17,6 @@ use register::Payload;
 use register::Reply;
 use steps::Ask;
 use steps::Lent;
-use steps::machines::Judged;
 use steps::machines::Stepper;
 
 // Drives 0 to 5: the label that each of them shows.
@@ -289,11 +287,6 @@ pub impl Stepper for Recorder as RecorderStepper {
     fn is_whole(&self) -> bool {
         true
     }
-}
-
-// The judge of a recorder is a register.
-pub impl Judged for Recorder as RecorderJudged {
-    ghost judge = { register };
 }
 
 // What was set is got, after any cut, loss, replacement and mending: by this code, with any budget that is enough.

@@ -7,27 +7,15 @@ ghost use Rattle.driver.specs.Loops.{Leaves};
 ghost use Rattle.whole.specs.Wholes.{houseOf, TimeStands};
 use driver::Disks;
 use front::House;
-use labels::Label;
-use labels::Record;
-use recorder::Drives;
-use recorder::Phase;
 use recorder::Recorder;
 use recorder::RecorderStepper;
-use recorder::Task;
 use steps::Lent;
 
 // A house that isn't up yet; it will hear lines of up to `longest` bytes.
 pub fn closed_house(longest: usize) -> House<Recorder>
     ensures { λ r. ⌜ r .longest ≡ longest ⌝ }
 {
-    let recorder = Recorder {
-        drives: Drives { seen: [Label::Missing; 6] },
-        gets: [false; 6],
-        current: Record::Empty,
-        task: Task::Gets,
-        phase: Phase::Over,
-    };
-    House::new(recorder, longest)
+    House::new(Recorder::new(), longest)
 }
 
 // Answers a line. What is run is the machine of the promise; and the promise holds of it: whatever lines come, wherever power fails,
