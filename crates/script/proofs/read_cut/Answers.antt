@@ -1,0 +1,6 @@
+use borrow.Author.Needs.{needs}
+use Rattle.std.proofs.shelf.Parts.{overwrites}
+use Rattle.script.proofs.read_cut.Needs as need
+
+pub returns-then-begins-with : need.returns-then-begins-with
+returns-then-begins-with c = search (needs, overwrites)
