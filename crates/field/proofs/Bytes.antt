@@ -47,7 +47,7 @@ double-xor x y h k =
     eqb→eq (double (bitXor x y)) (bitXor (double x) (double y))
     (at (λ y. eqb (double (bitXor x y)) (bitXor (double x) (double y))) 256 (at (λ x. below (λ y. eqb (double (bitXor x y)) (bitXor (double x) (double y))) 256) 256 double-xor-all x h) y k)
 
-swap : (a b c d : ℕ) → bitXor (bitXor a b) (bitXor c d) ≡ bitXor (bitXor a c) (bitXor b d)
+pub swap : (a b c d : ℕ) → bitXor (bitXor a b) (bitXor c d) ≡ bitXor (bitXor a c) (bitXor b d)
 swap a b c d = xor-assoc a b (bitXor c d) ∙ ap (bitXor a) (sym (xor-assoc b c d) ∙ ap (λ m. bitXor m d) (xor-comm b c) ∙ xor-assoc c b d) ∙ sym (xor-assoc a c (bitXor b d))
 
 -- a bit times a byte
@@ -80,6 +80,18 @@ by-xor (suc n) c x y h k =
 pub record Lin (F : ℕ → ℕ → ℕ → ℕ → ℕ) : Type 0 where
   pub small : (x y z w : ℕ) → x < 256 → y < 256 → z < 256 → w < 256 → F x y z w < 256
   pub sum : (x y z w p q r s : ℕ) → x < 256 → y < 256 → z < 256 → w < 256 → p < 256 → q < 256 → r < 256 → s < 256 → F (bitXor x p) (bitXor y q) (bitXor z r) (bitXor w s) ≡ bitXor (F x y z w) (F p q r s)
+
+pub first-lin : Lin (λ x y z w. x)
+first-lin = record { small = λ x y z w a b c d. a; sum = λ x y z w p q r s a b c d e f g h. refl }
+
+pub second-lin : Lin (λ x y z w. y)
+second-lin = record { small = λ x y z w a b c d. b; sum = λ x y z w p q r s a b c d e f g h. refl }
+
+pub third-lin : Lin (λ x y z w. z)
+third-lin = record { small = λ x y z w a b c d. c; sum = λ x y z w p q r s a b c d e f g h. refl }
+
+pub fourth-lin : Lin (λ x y z w. w)
+fourth-lin = record { small = λ x y z w a b c d. d; sum = λ x y z w p q r s a b c d e f g h. refl }
 
 pub dot-lin : (m : Row) → Lin (dot m)
 unfolding dot times

@@ -10,8 +10,8 @@ use Rattle.field.specs.Code.{lengths, At, here, there, Among, no-more, one-mor
 use Rattle.meaning.specs.Lists.{every}
 use Rattle.field.specs.Field.{double, by, times, Row, dot, map4, first, rest}
 use Rattle.field.specs.Stripe.{Rows, generator, inverse, keyOf, encoded, inverted, decoded, fourOfSix, Held, pieceAt, rebuilt, RebuildsSame, zeros, ZerosStay}
-use Rattle.field.proofs.Bytes.{Lin, dot-lin, below, test, test1, agree}
-use Rattle.field.proofs.Undone.{after, Is, Undone, undone, first-lin, second-lin, third-lin, fourth-lin}
+use Rattle.field.proofs.Bytes.{Lin, dot-lin, below, test, test1, agree, first-lin, second-lin, third-lin, fourth-lin}
+use Rattle.field.proofs.Undone.{after, Is, Undone, undone}
 
 -- n bytes
 abbrev pub Good : ℕ → List ℕ → Type 0

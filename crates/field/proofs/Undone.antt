@@ -7,7 +7,7 @@ use lib.Bits.{bitXor}
 use lib.Dec.{eqb, ltb, T, lt→ltb}
 use Rattle.field.specs.Field.{double, by, times, Row, row, dot}
 use Rattle.field.specs.Stripe.{Rows, generator, inverse, keyOf}
-use Rattle.field.proofs.Bytes.{below, left, right, at, Lin, dot-lin, comp-lin, test1, test, agree}
+use Rattle.field.proofs.Bytes.{below, left, right, at, Lin, dot-lin, comp-lin, test1, test, agree, first-lin, second-lin, third-lin, fourth-lin}
 
 -- a byte generator of four pieces' bytes
 abbrev pub after : ℕ → ℕ → ℕ → ℕ → Row → ℕ → ℕ → ℕ → ℕ → ℕ
@@ -46,18 +46,6 @@ Is F G = (x y z w : ℕ) → x < 256 → y < 256 → z < 256 → w < 256 → F x
 
 after-lin : (p q r s : ℕ) (m : Row) → Lin (after p q r s m)
 after-lin p q r s m = comp-lin (dot m) (dot (generator p)) (dot (generator q)) (dot (generator r)) (dot (generator s)) (dot-lin m) (dot-lin (generator p)) (dot-lin (generator q)) (dot-lin (generator r)) (dot-lin (generator s))
-
-pub first-lin : Lin (λ x y z w. x)
-first-lin = record { small = λ x y z w a b c d. a; sum = λ x y z w p q r s a b c d e f g h. refl }
-
-pub second-lin : Lin (λ x y z w. y)
-second-lin = record { small = λ x y z w a b c d. b; sum = λ x y z w p q r s a b c d e f g h. refl }
-
-pub third-lin : Lin (λ x y z w. z)
-third-lin = record { small = λ x y z w a b c d. c; sum = λ x y z w p q r s a b c d e f g h. refl }
-
-pub fourth-lin : Lin (λ x y z w. w)
-fourth-lin = record { small = λ x y z w a b c d. d; sum = λ x y z w p q r s a b c d e f g h. refl }
 
 pub record Undone (p q r s : ℕ) : Type 0 where
   pub one : Is (after p q r s (inverse (keyOf p q r s) .w)) (λ x y z w. x)
