@@ -20,12 +20,12 @@ Good zero (x ∷ xs) = ⊥
 Good (suc n) [] = ⊥
 Good (suc n) (x ∷ xs) = (x < 256) × Good n xs
 
-comp : (F G H I J : ℕ → ℕ → ℕ → ℕ → ℕ) (a b c d : List ℕ) → map4 F (map4 G a b c d) (map4 H a b c d) (map4 I a b c d) (map4 J a b c d) ≡ map4 (λ x y z w. F (G x y z w) (H x y z w) (I x y z w) (J x y z w)) a b c d
+pub comp : (F G H I J : ℕ → ℕ → ℕ → ℕ → ℕ) (a b c d : List ℕ) → map4 F (map4 G a b c d) (map4 H a b c d) (map4 I a b c d) (map4 J a b c d) ≡ map4 (λ x y z w. F (G x y z w) (H x y z w) (I x y z w) (J x y z w)) a b c d
 unfolding map4
 comp F G H I J [] b c d = refl
 comp F G H I J (x ∷ xs) b c d = ap (λ l. F (G x (first b) (first c) (first d)) (H x (first b) (first c) (first d)) (I x (first b) (first c) (first d)) (J x (first b) (first c) (first d)) ∷ l) (comp F G H I J xs (rest b) (rest c) (rest d))
 
-same : (F G : ℕ → ℕ → ℕ → ℕ → ℕ) → Is F G → (n : ℕ) (a b c d : List ℕ) → Good n a → Good n b → Good n c → Good n d → map4 F a b c d ≡ map4 G a b c d
+pub same : (F G : ℕ → ℕ → ℕ → ℕ → ℕ) → Is F G → (n : ℕ) (a b c d : List ℕ) → Good n a → Good n b → Good n c → Good n d → map4 F a b c d ≡ map4 G a b c d
 unfolding map4
 same F G e zero [] b c d ga gb gc gd = refl
 same F G e zero (x ∷ xs) b c d ga gb gc gd = absurd ga
@@ -36,13 +36,13 @@ same F G e (suc n) (x ∷ xs) (y ∷ ys) (z ∷ zs) [] ga gb gc gd = absurd gd
 same F G e (suc n) (x ∷ xs) (y ∷ ys) (z ∷ zs) (w ∷ ws) ga gb gc gd =
     let h = e x y z w (ga .0) (gb .0) (gc .0) (gd .0) in let t = same F G e n xs ys zs ws (ga .1) (gb .1) (gc .1) (gd .1) in cc
 
-one : (n : ℕ) (a b c d : List ℕ) → Good n a → map4 (λ x y z w. x) a b c d ≡ a
+pub one : (n : ℕ) (a b c d : List ℕ) → Good n a → map4 (λ x y z w. x) a b c d ≡ a
 unfolding map4
 one n [] b c d g = refl
 one zero (x ∷ xs) b c d g = absurd g
 one (suc n) (x ∷ xs) b c d g = ap (λ l. x ∷ l) (one n xs (rest b) (rest c) (rest d) (g .1))
 
-two : (n : ℕ) (a b c d : List ℕ) → Good n a → Good n b → map4 (λ x y z w. y) a b c d ≡ b
+pub two : (n : ℕ) (a b c d : List ℕ) → Good n a → Good n b → map4 (λ x y z w. y) a b c d ≡ b
 unfolding map4
 two zero [] [] c d g h = refl
 two zero [] (y ∷ ys) c d g h = absurd h
@@ -51,7 +51,7 @@ two (suc n) [] b c d g h = absurd g
 two (suc n) (x ∷ xs) [] c d g h = absurd h
 two (suc n) (x ∷ xs) (y ∷ ys) c d g h = ap (λ l. y ∷ l) (two n xs ys (rest c) (rest d) (g .1) (h .1))
 
-three : (n : ℕ) (a b c d : List ℕ) → Good n a → Good n c → map4 (λ x y z w. z) a b c d ≡ c
+pub three : (n : ℕ) (a b c d : List ℕ) → Good n a → Good n c → map4 (λ x y z w. z) a b c d ≡ c
 unfolding map4
 three zero [] b [] d g h = refl
 three zero [] b (y ∷ ys) d g h = absurd h
@@ -60,7 +60,7 @@ three (suc n) [] b c d g h = absurd g
 three (suc n) (x ∷ xs) b [] d g h = absurd h
 three (suc n) (x ∷ xs) b (z ∷ zs) d g h = ap (λ l. z ∷ l) (three n xs (rest b) zs (rest d) (g .1) (h .1))
 
-four : (n : ℕ) (a b c d : List ℕ) → Good n a → Good n d → map4 (λ x y z w. w) a b c d ≡ d
+pub four : (n : ℕ) (a b c d : List ℕ) → Good n a → Good n d → map4 (λ x y z w. w) a b c d ≡ d
 unfolding map4
 four zero [] b c [] g h = refl
 four zero [] b c (y ∷ ys) g h = absurd h
@@ -69,7 +69,7 @@ four (suc n) [] b c d g h = absurd g
 four (suc n) (x ∷ xs) b c [] g h = absurd h
 four (suc n) (x ∷ xs) b c (w ∷ ws) g h = ap (λ l. w ∷ l) (four n xs (rest b) (rest c) ws (g .1) (h .1))
 
-bytes : (F : ℕ → ℕ → ℕ → ℕ → ℕ) → Lin F → (n : ℕ) (a b c d : List ℕ) → Good n a → Good n b → Good n c → Good n d → Good n (map4 F a b c d)
+pub bytes : (F : ℕ → ℕ → ℕ → ℕ → ℕ) → Lin F → (n : ℕ) (a b c d : List ℕ) → Good n a → Good n b → Good n c → Good n d → Good n (map4 F a b c d)
 unfolding map4
 bytes F l zero [] b c d ga gb gc gd = tt
 bytes F l zero (x ∷ xs) b c d ga gb gc gd = absurd ga
@@ -145,19 +145,19 @@ at-nth (y ∷ xs) (suc p) x (there u) = let h = at-nth xs p x u in (omega (arith
 among : (all : List (List ℕ)) (n : ℕ) (r : record { place : ℕ; bytes : List ℕ }) (rs : List (record { place : ℕ; bytes : List ℕ })) → Among all n (r ∷ rs) → (n ≤ r .place) × At all (r .place) (r .bytes) × Among all (suc (r .place)) rs
 among all n r rs (one-more l u m) = (l, u, m)
 
-is-one : Is (dot (generator 0)) (λ x y z w. x)
+pub is-one : Is (dot (generator 0)) (λ x y z w. x)
 unfolding below test test1 dot times by double
 is-one = agree (dot (generator 0)) (λ x y z w. x) (dot-lin (generator 0)) first-lin tt
 
-is-two : Is (dot (generator 1)) (λ x y z w. y)
+pub is-two : Is (dot (generator 1)) (λ x y z w. y)
 unfolding below test test1 dot times by double
 is-two = agree (dot (generator 1)) (λ x y z w. y) (dot-lin (generator 1)) second-lin tt
 
-is-three : Is (dot (generator 2)) (λ x y z w. z)
+pub is-three : Is (dot (generator 2)) (λ x y z w. z)
 unfolding below test test1 dot times by double
 is-three = agree (dot (generator 2)) (λ x y z w. z) (dot-lin (generator 2)) third-lin tt
 
-is-four : Is (dot (generator 3)) (λ x y z w. w)
+pub is-four : Is (dot (generator 3)) (λ x y z w. w)
 unfolding below test test1 dot times by double
 is-four = agree (dot (generator 3)) (λ x y z w. w) (dot-lin (generator 3)) fourth-lin tt
 

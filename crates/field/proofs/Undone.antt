@@ -26,11 +26,11 @@ every4 : T (below (λ p. below (λ q. below (λ r. below (λ s. rising p q r s) 
 unfolding below rising all4 test test1 inverse dot times by double
 every4 = tt
 
-rises : (b c : Bool) → T b → T (elim b [ true ↦ c | false ↦ true ]) → T c
+pub rises : (b c : Bool) → T b → T (elim b [ true ↦ c | false ↦ true ]) → T c
 rises true c t u = u
 rises false c t u = absurd t
 
-both : (a b : Bool) → T a → T b → T (cond a b false)
+pub both : (a b : Bool) → T a → T b → T (cond a b false)
 both true b t u = u
 both false b t u = absurd t
 

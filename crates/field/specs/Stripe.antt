@@ -1,15 +1,14 @@
 -- A stripe: four data pieces, P, which is their sum, and Q, their sum weighted by powers of 2. What each of the six is made by, what any four of
 -- them are put together by, and a piece that is made anew of four others.
 -- Assumes nothing.
-use Prim.Native.Nat.{ℕ, zero, suc, _+_, _*_, _<_}
+use Prim.Native.Nat.{ℕ, zero, suc, _+_, _*_, min, max}
 use mathlib.Core.Path.{_≡_}
-use mathlib.Core.Bool.{Bool, true, false, cond, _&&_}
+use mathlib.Core.Bool.{cond}
 use mathlib.Core.List.{List, [], _∷_}
-use lib.Bits.{bitXor}
-use lib.Dec.{eqb, ltb, T}
+use lib.Dec.{eqb, leb, T}
 use lib.ListN.{length, replicate}
 use Rattle.field.specs.Code.{Code, lengths, Among}
-use Rattle.field.specs.Field.{double, Row, row, dot, map4}
+use Rattle.field.specs.Field.{Row, row, dot, map4}
 
 -- the row of the generator matrix by which the piece at a place is made of the data
 abbrev pub generator : ℕ → Row
@@ -109,6 +108,18 @@ rowFor key (suc (suc zero)) = inverse key .y
 rowFor key (suc (suc (suc zero))) = inverse key .z
 rowFor key (suc (suc (suc (suc zero)))) = rowBy (generator 4) (inverse key)
 rowFor key (suc (suc (suc (suc (suc n))))) = rowBy (generator 5) (inverse key)
+
+-- the k-th place of those but i and j, where i is below j
+abbrev pub skip : ℕ → ℕ → ℕ → ℕ
+skip i j k = let a = cond (leb i k) (k + 1) k in cond (leb j a) (a + 1) a
+
+-- the number of the four places but t and o
+abbrev pub keyBut : ℕ → ℕ → ℕ
+keyBut t o = keyOf (skip (min t o) (max t o) 0) (skip (min t o) (max t o) 1) (skip (min t o) (max t o) 2) (skip (min t o) (max t o) 3)
+
+-- the coefficients by which the other four give the piece at t, where it and the one at o are lost
+unfoldable pub lostRow : ℕ → ℕ → Row
+lostRow t o = rowFor (keyBut t o) t
 
 -- a piece made anew is the one that encoding gave
 abbrev pub RebuildsSame : Type 0
