@@ -62,7 +62,7 @@ bit-xor : (b x y : ℕ) → (b ≡ 0) ⊎ (b ≡ 1) → b * bitXor x y ≡ bitXo
 bit-xor b x y (inl e) = let z : (n : ℕ) → b * n ≡ 0 = λ n. ap (λ m. m * n) e ∙ zero-mul n in z (bitXor x y) ∙ sym (ap (λ m. bitXor m (b * y)) (z x) ∙ z y)
 bit-xor b x y (inr e) = let z : (n : ℕ) → b * n ≡ n = λ n. ap (λ m. m * n) e ∙ one-mul n in z (bitXor x y) ∙ sym (ap (λ m. bitXor m (b * y)) (z x) ∙ ap (bitXor x) (z y))
 
-by-lt : (n c x : ℕ) → x < 256 → by n c x < 256
+pub by-lt : (n c x : ℕ) → x < 256 → by n c x < 256
 unfolding by
 by-lt zero c x h = omega arith
 by-lt (suc n) c x h = xor-lt 8 (double (by n (c / 2) x)) (c % 2 * x) (double-lt (by n (c / 2) x) (by-lt n (c / 2) x h)) (bit-lt (c % 2) x (bits c) h)

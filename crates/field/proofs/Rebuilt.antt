@@ -88,6 +88,35 @@ chosen-rows p q r s pq qr rs s6 =
       sum = agree _ _ (made-lin (generator 4) m) (dot-lin (rowBy (generator 4) m)) (left e f t4);
       weighted = agree _ _ (made-lin (generator 5) m) (dot-lin (rowBy (generator 5) m)) (right e f t4) }
 
+-- the other lost place is what the five leave of 15, the sum of all places
+lost : ℕ → ℕ → ℕ → ℕ → ℕ → Bool
+lost p q r s t = elim (cond (eqb t p) false (cond (eqb t q) false (cond (eqb t r) false (cond (eqb t s) false true)))) [ true ↦ eqb (keyOf p q r s) (keyBut t (15 - p - q - r - s - t)) | false ↦ true ]
+
+rising-lost : ℕ → ℕ → ℕ → ℕ → Bool
+rising-lost p q r s = elim (cond (ltb p q) (cond (ltb q r) (ltb r s) false) false) [ true ↦ below (lost p q r s) 6 | false ↦ true ]
+
+every-lost : T (below (λ p. below (λ q. below (λ r. below (λ s. rising-lost p q r s) 6) 6) 6) 6)
+unfolding below rising-lost lost
+every-lost = tt
+
+unequal : (m n : ℕ) (b : Bool) → m ≢ n → T b → T (cond (eqb m n) false b)
+unequal m n b ne t = go (eqb m n) refl
+  where
+    go : (e : Bool) → eqb m n ≡ e → T (cond e false b)
+    go true h = absurd (ne (eqb→eq m n (subst T (sym h) tt)))
+    go false h = t
+
+pub lost-row : (p q r s t : ℕ) → p < q → q < r → r < s → s < 6 → t < 6 → t ≢ p → t ≢ q → t ≢ r → t ≢ s → rowFor (keyOf p q r s) t ≡ lostRow t (15 - p - q - r - s - t)
+unfolding rising-lost lost lostRow
+lost-row p q r s t pq qr rs s6 t6 np nq nr ns =
+    let all = rises (cond (ltb p q) (cond (ltb q r) (ltb r s) false) false) (below (lost p q r s) 6)
+          (both (ltb p q) (cond (ltb q r) (ltb r s) false) (lt→ltb p q pq) (both (ltb q r) (ltb r s) (lt→ltb q r qr) (lt→ltb r s rs)))
+          (at (λ s. rising-lost p q r s) 6 (at (λ r. below (λ s. rising-lost p q r s) 6) 6 (at (λ q. below (λ r. below (λ s. rising-lost p q r s) 6) 6) 6 (at (λ p. below (λ q. below (λ r. below (λ s. rising-lost p q r s) 6) 6) 6) 6 every-lost p (omega arith)) q (omega arith)) r (omega arith)) s s6) in
+    let here = rises (cond (eqb t p) false (cond (eqb t q) false (cond (eqb t r) false (cond (eqb t s) false true)))) (eqb (keyOf p q r s) (keyBut t (15 - p - q - r - s - t)))
+          (unequal t p (cond (eqb t q) false (cond (eqb t r) false (cond (eqb t s) false true))) np (unequal t q (cond (eqb t r) false (cond (eqb t s) false true)) nq (unequal t r (cond (eqb t s) false true) nr (unequal t s true ns tt))))
+          (at (lost p q r s) 6 all t t6) in
+    ap (λ k. rowFor k t) (eqb→eq (keyOf p q r s) (keyBut t (15 - p - q - r - s - t)) here)
+
 abbrev pub heldFour : ℕ → ℕ → ℕ → ℕ → List ℕ → List ℕ → List ℕ → List ℕ → List Held
 heldFour p q r s x y z w = held p x ∷ held q y ∷ held r z ∷ held s w ∷ []
 

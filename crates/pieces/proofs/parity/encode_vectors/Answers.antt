@@ -5,7 +5,7 @@ use lib.Lanes.{chunk}
 use Rattle.field.specs.Field.{map4, dot}
 use Rattle.field.specs.Stripe.{generator}
 use Rattle.pieces.proofs.Steps.{lanes-more}
-use Rattle.pieces.proofs.encode_vectors.Needs as need
+use Rattle.pieces.proofs.parity.encode_vectors.Needs as need
 
 pub loop-i-again : need.loop-i-again
 loop-i-again c =

@@ -3,7 +3,7 @@ use native.Mathlib.Omega.{arith}
 use mathlib.Core.Path.{_≡_, _∙_, ap}
 use lib.ListN.{length, take, drop, length-take}
 use lib.Seq.{take-all}
-use Rattle.pieces.proofs.load.Needs as need
+use Rattle.pieces.proofs.lanes.load.Needs as need
 
 pub returns : need.returns
 returns c =

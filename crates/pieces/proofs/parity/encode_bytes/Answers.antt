@@ -7,7 +7,7 @@ use Rattle.field.specs.Field.{dot}
 use Rattle.field.specs.Stripe.{generator}
 use Rattle.field.proofs.Horner.{p-is}
 use Rattle.pieces.proofs.Steps.{byte-more, whole}
-use Rattle.pieces.proofs.encode_bytes.Needs as need
+use Rattle.pieces.proofs.parity.encode_bytes.Needs as need
 
 pub loop-i-again : need.loop-i-again
 loop-i-again c =

@@ -2,7 +2,7 @@ use mathlib.Core.Path.{_≡_, _∙_, ap}
 use lib.Bits.{bitXor}
 use lib.Lanes.{zip2}
 use Rattle.pieces.proofs.Words.{weighted-lanes}
-use Rattle.pieces.proofs.weighted.Needs as need
+use Rattle.pieces.proofs.lanes.weighted.Needs as need
 
 pub returns : need.returns
 returns c =

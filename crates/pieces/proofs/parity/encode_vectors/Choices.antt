@@ -2,7 +2,7 @@ use Prim.Native.Nat.{_*_}
 use mathlib.Core.Path.{_≡_}
 use lib.ListN.{take}
 use Rattle.field.specs.Stripe.{parityP, parityQ}
-use Rattle.pieces.proofs.encode_vectors.Given as given
+use Rattle.pieces.proofs.parity.encode_vectors.Given as given
 
 abbrev pub Inv-loop-i : given.InvT-loop-i
 Inv-loop-i l =

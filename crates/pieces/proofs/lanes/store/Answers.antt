@@ -6,7 +6,7 @@ use lib.Lanes.{putChunk}
 use lib.ListN.{length, take, drop, length-take, length-drop}
 use Rattle.std.proofs.shelf.Lanes.{putChunk-whole}
 use Rattle.std.proofs.shelf.Parts.{take-putMid}
-use Rattle.pieces.proofs.store.Needs as need
+use Rattle.pieces.proofs.lanes.store.Needs as need
 
 pub returns : need.returns
 returns c =

@@ -1,7 +1,7 @@
 use Prim.Native.Nat.{_<_}
 use borrow.Author.Needs.{needs}
 use Rattle.field.proofs.Horner.{q-is}
-use Rattle.pieces.proofs.weighted_byte.Needs as need
+use Rattle.pieces.proofs.bytes.weighted_byte.Needs as need
 
 pub returns : need.returns
 returns c =
