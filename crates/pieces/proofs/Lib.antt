@@ -2,3 +2,4 @@ pub mod Words
 pub mod Steps
 pub mod Table
 pub mod Blends
+pub mod LostRows
