@@ -3,3 +3,4 @@ pub mod Steps
 pub mod Table
 pub mod Blends
 pub mod LostRows
+pub mod Pieces

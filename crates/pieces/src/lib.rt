@@ -1,19 +1,28 @@
 // Stripes of six pieces: two parity pieces worked out of four data pieces, and any piece made anew of any four.
 ghost use Prim.Native.Nat.{ℕ, _+_, _*_, _/_, _<_, _≤_};
-ghost use lib.ListN.{length};
-ghost use mathlib.Core.Bool.{cond};
+ghost use lib.Dec.{ltb};
+ghost use lib.ListN.{getD, length};
+ghost use mathlib.Core.Bool.{cond, _&&_};
 ghost use mathlib.Core.List.{[], _∷_};
 ghost use mathlib.Core.Path.{_≡_};
-ghost use Rattle.field.specs.Stripe.{parityP, parityQ};
-ghost use Rattle.pieces.specs.Lengths.{allOf};
+ghost use Rattle.field.specs.Stripe.{decoded, held, parityP, parityQ, rebuilt};
+ghost use Rattle.pieces.specs.Accepted.{allOf, rising};
 mod bytes;
 mod lanes;
 mod losses;
 mod parity;
 mod sums;
 use lanes::WIDTH;
+use losses::fill_lost;
 use parity::encode_bytes;
 use parity::encode_vectors;
+
+// A piece that is at hand, and its place in the stripe: 0 to 3 for data, 4 for P, 5 for Q.
+#[derive(Clone, Copy)]
+pub struct Held<'a> {
+    pub place: usize,
+    pub bytes: &'a [u8],
+}
 
 // The two parity pieces of four data pieces. Pieces that are not all as long as the first are refused, and nothing is written.
 pub fn encode(a: &[u8], b: &[u8], c: &[u8], d: &[u8], p: &mut [u8], q: &mut [u8]) -> bool
@@ -25,6 +34,65 @@ pub fn encode(a: &[u8], b: &[u8], c: &[u8], d: &[u8], p: &mut [u8], q: &mut [u8]
     if b.len() == n && c.len() == n && d.len() == n && p.len() == n && q.len() == n {
         encode_vectors(a, b, c, d, p, q);
         encode_bytes(a, b, c, d, p, q, n / WIDTH * WIDTH);
+        return true;
+    }
+    false
+}
+
+// The piece at a place, of four at rising places.
+fn piece(places: [usize; 4], w: &[u8], x: &[u8], y: &[u8], z: &[u8], wanted: usize, out: &mut [u8])
+    requires { ⌜ getD places 0 0 < getD places 1 0 ⌝ ∗ ⌜ getD places 1 0 < getD places 2 0 ⌝ ∗ ⌜ getD places 2 0 < getD places 3 0 ⌝ ∗ ⌜ getD places 3 0 < 6 ⌝ ∗ ⌜ wanted < 6 ⌝ }
+    requires { ⌜ length (now x) ≡ length (now w) ⌝ ∗ ⌜ length (now y) ≡ length (now w) ⌝ ∗ ⌜ length (now z) ≡ length (now w) ⌝ ∗ ⌜ length (now out) ≡ length (now w) ⌝ }
+    ensures { λ _. ⌜ now (out .exit) ≡ rebuilt (held (getD places 0 0) (now (w .entry)) ∷ held (getD places 1 0) (now (x .entry)) ∷ held (getD places 2 0) (now (y .entry)) ∷ held (getD places 3 0) (now (z .entry)) ∷ []) wanted ⌝ }
+{
+    let [p, q, r, s] = places;
+    if wanted == p {
+        out.copy_from_slice(w);
+    } else if wanted == q {
+        out.copy_from_slice(x);
+    } else if wanted == r {
+        out.copy_from_slice(y);
+    } else if wanted == s {
+        out.copy_from_slice(z);
+    } else {
+        // All six places add up to 15.
+        fill_lost(wanted, 15 - p - q - r - s - wanted, w, x, y, z, out);
+    }
+}
+
+// Whether four pieces are of four places, in order, and as long as the first.
+fn four_of_six(w: Held, x: Held, y: Held, z: Held) -> bool
+    ensures { λ r. ⌜ r ≡ rising (w .entry .place) (x .entry .place) (y .entry .place) (z .entry .place) && allOf (length (now (w .entry .bytes))) (now (x .entry .bytes) ∷ now (y .entry .bytes) ∷ now (z .entry .bytes) ∷ []) ⌝ }
+{
+    let n = w.bytes.len();
+    w.place < x.place && x.place < y.place && y.place < z.place && z.place < 6 && x.bytes.len() == n && y.bytes.len() == n && z.bytes.len() == n
+}
+
+// The piece at a place, made anew of any four: the one that encoding gave. Refused, and nothing is written, where the four are not of rising places,
+// there is no such place, or lengths differ.
+pub fn rebuild(w: Held, x: Held, y: Held, z: Held, wanted: usize, out: &mut [u8]) -> bool
+    ensures answer { λ r. ⌜ r ≡ (rising (w .entry .place) (x .entry .place) (y .entry .place) (z .entry .place) && allOf (length (now (w .entry .bytes))) (now (x .entry .bytes) ∷ now (y .entry .bytes) ∷ now (z .entry .bytes) ∷ [])) && (ltb wanted 6 && allOf (length (now (w .entry .bytes))) (now (out .entry) ∷ [])) ⌝ }
+    ensures piece { λ r. ⌜ now (out .exit) ≡ cond r (rebuilt (held (w .entry .place) (now (w .entry .bytes)) ∷ held (x .entry .place) (now (x .entry .bytes)) ∷ held (y .entry .place) (now (y .entry .bytes)) ∷ held (z .entry .place) (now (z .entry .bytes)) ∷ []) wanted) (now (out .entry)) ⌝ }
+{
+    if four_of_six(w, x, y, z) && wanted < 6 && out.len() == w.bytes.len() {
+        piece([w.place, x.place, y.place, z.place], w.bytes, x.bytes, y.bytes, z.bytes, wanted, out);
+        return true;
+    }
+    false
+}
+
+// The four data pieces of any four pieces. Refused, and nothing is written, where the four are not of rising places or lengths differ.
+pub fn decode(w: Held, x: Held, y: Held, z: Held, a: &mut [u8], b: &mut [u8], c: &mut [u8], d: &mut [u8]) -> bool
+    ensures answer { λ r. ⌜ r ≡ (rising (w .entry .place) (x .entry .place) (y .entry .place) (z .entry .place) && allOf (length (now (w .entry .bytes))) (now (x .entry .bytes) ∷ now (y .entry .bytes) ∷ now (z .entry .bytes) ∷ [])) && allOf (length (now (w .entry .bytes))) (now (a .entry) ∷ now (b .entry) ∷ now (c .entry) ∷ now (d .entry) ∷ []) ⌝ }
+    ensures content { λ r. ⌜ now (a .exit) ∷ now (b .exit) ∷ now (c .exit) ∷ now (d .exit) ∷ [] ≡ cond r (decoded (held (w .entry .place) (now (w .entry .bytes)) ∷ held (x .entry .place) (now (x .entry .bytes)) ∷ held (y .entry .place) (now (y .entry .bytes)) ∷ held (z .entry .place) (now (z .entry .bytes)) ∷ [])) (now (a .entry) ∷ now (b .entry) ∷ now (c .entry) ∷ now (d .entry) ∷ []) ⌝ }
+{
+    let n = w.bytes.len();
+    if four_of_six(w, x, y, z) && a.len() == n && b.len() == n && c.len() == n && d.len() == n {
+        let places = [w.place, x.place, y.place, z.place];
+        piece(places, w.bytes, x.bytes, y.bytes, z.bytes, 0, a);
+        piece(places, w.bytes, x.bytes, y.bytes, z.bytes, 1, b);
+        piece(places, w.bytes, x.bytes, y.bytes, z.bytes, 2, c);
+        piece(places, w.bytes, x.bytes, y.bytes, z.bytes, 3, d);
         return true;
     }
     false
