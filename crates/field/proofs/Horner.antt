@@ -6,7 +6,7 @@ use mathlib.Core.Path.{_≡_, refl, sym, _∙_, ap}
 use native.Mathlib.Nat.{div-div-eq-div-mul, pow-suc, div-one}
 use native.Mathlib.Numerals.{add-one}
 use lib.Bits.{bitXor, xor-lt}
-use Rattle.field.specs.Field.{double, by, times, Row, row, dot}
+use Rattle.field.specs.Field.{double, by, times, Row, row, dot, partial}
 use Rattle.field.specs.Stripe.{generator}
 use Rattle.field.proofs.Bytes.{below, test, test1, Lin, dot-lin, agree, double-lt, double-xor, by-lt, swap, first-lin, second-lin, third-lin, fourth-lin}
 
@@ -61,10 +61,6 @@ by-more k c x lt =
 pub by-all : (c x : ℕ) → by 8 (c / 2 ^ (8 - 8)) x ≡ times c x
 unfolding times
 by-all c x = ap (λ n. by 8 n x) (div-one c)
-
--- the sum of four products, by the highest k bits of the coefficients
-abbrev pub partial : Row → ℕ → ℕ → ℕ → ℕ → ℕ → ℕ
-partial m k w x y z = bitXor (by k (m .a / 2 ^ (8 - k)) w) (bitXor (by k (m .b / 2 ^ (8 - k)) x) (bitXor (by k (m .c / 2 ^ (8 - k)) y) (by k (m .d / 2 ^ (8 - k)) z)))
 
 -- what one bit of each coefficient adds
 abbrev pub bits : Row → ℕ → ℕ → ℕ → ℕ → ℕ → ℕ

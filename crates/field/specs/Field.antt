@@ -1,7 +1,7 @@
 -- The field of 256 elements: polynomials over bits, of degree below 8, modulo x^8 + x^4 + x^3 + x^2 + 1. An element is a byte, whose bit k is the
 -- coefficient of x^k; the sum of two is their `bitXor`, and 2, which is x, generates every element but 0.
 -- Assumes nothing.
-use Prim.Native.Nat.{ℕ, zero, suc, _*_, _/_, _%_}
+use Prim.Native.Nat.{ℕ, zero, suc, _-_, _*_, _/_, _%_, _^_}
 use mathlib.Core.List.{List, [], _∷_}
 use lib.Bits.{bitXor}
 
@@ -31,6 +31,10 @@ row p q r s = record { a = p; b = q; c = r; d = s }
 -- the sum of four elements, each times its coefficient
 unfoldable pub dot : Row → ℕ → ℕ → ℕ → ℕ → ℕ
 dot m x y z w = bitXor (times (m .a) x) (bitXor (times (m .b) y) (bitXor (times (m .c) z) (times (m .d) w)))
+
+-- the sum of four products, by the highest k bits of the coefficients
+abbrev pub partial : Row → ℕ → ℕ → ℕ → ℕ → ℕ → ℕ
+partial m k w x y z = bitXor (by k (m .a / 2 ^ (8 - k)) w) (bitXor (by k (m .b / 2 ^ (8 - k)) x) (bitXor (by k (m .c / 2 ^ (8 - k)) y) (by k (m .d / 2 ^ (8 - k)) z)))
 
 abbrev pub first : List ℕ → ℕ
 first [] = 0

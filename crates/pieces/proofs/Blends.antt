@@ -3,13 +3,13 @@
 use Prim.Native.Nat.{ℕ, zero, suc, _+_, _-_, _*_, _/_, _%_, _^_, _<_, _≤_}
 use native.Mathlib.Omega.{arith}
 use native.Mathlib.Nat.{suc-inj, zero-mul, one-mul}
-use mathlib.Core.Path.{_≡_, refl, sym, _∙_, ap}
+use mathlib.Core.Path.{_≡_, refl, sym, _∙_, ap, subst}
 use mathlib.Core.List.{List, [], _∷_, map}
 use lib.Bits.{bitXor}
 use lib.Lanes.{zip2}
 use lib.ListN.{length, replicate}
-use Rattle.field.specs.Field.{double, by, Row, dot, map4}
-use Rattle.field.proofs.Horner.{partial, bits, partial-more, partial-all}
+use Rattle.field.specs.Field.{double, by, Row, dot, map4, partial}
+use Rattle.field.proofs.Horner.{bits, partial-more, partial-all}
 use Rattle.pieces.proofs.Words.{Word, map4-is}
 
 -- a bit times each lane
@@ -44,13 +44,26 @@ step-map F a b c d (suc n) (p ∷ w) (q ∷ x) (r ∷ y) (s ∷ z) lw lx ly lz =
     ap (λ t. bitXor (double (F p q r s)) (bitXor (a p) (bitXor (b q) (bitXor (c r) (d s)))) ∷ t) (step-map F a b c d n w x y z (suc-inj lw) (suc-inj lx) (suc-inj ly) (suc-inj lz))
 
 -- one bit more
-pub blend-more : (m : Row) (n k : ℕ) (w x y z : List ℕ) → Word n w → Word n x → Word n y → Word n z → k < 8 →
+blend-more : (m : Row) (n k : ℕ) (w x y z : List ℕ) → Word n w → Word n x → Word n y → Word n z → k < 8 →
     zip2 bitXor (map double (map4 (partial m k) w x y z))
       (zip2 bitXor (map (λ v. m .a / 2 ^ (7 - k) % 2 * v) w) (zip2 bitXor (map (λ v. m .b / 2 ^ (7 - k) % 2 * v) x) (zip2 bitXor (map (λ v. m .c / 2 ^ (7 - k) % 2 * v) y) (map (λ v. m .d / 2 ^ (7 - k) % 2 * v) z))))
     ≡ map4 (partial m (k + 1)) w x y z
 blend-more m n k w x y z fw fx fy fz lt =
     step-map (partial m k) _ _ _ _ n w x y z (fw .0) (fx .0) (fy .0) (fz .0)
     ∙ map4-is (λ w x y z. bitXor (double (partial m k w x y z)) (bits m (7 - k) w x y z)) (partial m (k + 1)) (partial-more m k lt) n w x y z fw fx fy fz
+
+-- the same, from the bit k down
+pub blend-bit : (m : Row) (n k : ℕ) (w x y z : List ℕ) → Word n w → Word n x → Word n y → Word n z → k < 8 →
+    zip2 bitXor (map double (map4 (partial m (7 - k)) w x y z))
+      (zip2 bitXor (map (λ v. m .a / 2 ^ k % 2 * v) w) (zip2 bitXor (map (λ v. m .b / 2 ^ k % 2 * v) x) (zip2 bitXor (map (λ v. m .c / 2 ^ k % 2 * v) y) (map (λ v. m .d / 2 ^ k % 2 * v) z))))
+    ≡ map4 (partial m (8 - k)) w x y z
+blend-bit m n k w x y z fw fx fy fz lt =
+    let j : 7 - (7 - k) ≡ k = omega arith in
+    let e : 7 - k + 1 ≡ 8 - k = omega arith in
+    subst (λ i. zip2 bitXor (map double (map4 (partial m (7 - k)) w x y z))
+      (zip2 bitXor (map (λ v. m .a / 2 ^ i % 2 * v) w) (zip2 bitXor (map (λ v. m .b / 2 ^ i % 2 * v) x) (zip2 bitXor (map (λ v. m .c / 2 ^ i % 2 * v) y) (map (λ v. m .d / 2 ^ i % 2 * v) z))))
+      ≡ map4 (partial m (8 - k)) w x y z) j
+    (blend-more m n (7 - k) w x y z fw fx fy fz (omega arith) ∙ ap (λ i. map4 (partial m i) w x y z) e)
 
 -- every bit
 pub blend-all : (m : Row) (n : ℕ) (w x y z : List ℕ) → Word n w → Word n x → Word n y → Word n z → map4 (partial m 8) w x y z ≡ map4 (dot m) w x y z
