@@ -59,6 +59,10 @@ fn plain_decode(y: &[u8], z: &[u8], p: &[u8], q: &[u8], a: &mut [u8], b: &mut [u
 
 // The best rate of `work` over the rounds so far.
 fn best(rate: &mut f64, data: usize, turns: usize, mut work: impl FnMut()) {
+    // ISA-L leaves the upper halves of the vector registers in use, which slows down what comes after it to a third.
+    if std::arch::is_x86_feature_detected!("avx") {
+        unsafe { std::arch::asm!("vzeroupper") };
+    }
     let start = Instant::now();
     for _ in 0..turns {
         work();
@@ -89,9 +93,9 @@ fn main() {
         let mut decode_t = tables(vec![2, 6, 245, 244, 3, 7, 244, 244]);
         let mut rebuild_t = tables(vec![2, 6, 245, 244]);
         let mut from_q_t = tables(vec![71, 142, 2, 71]);
-        let turns = 40_000_000 / (4 * n);
+        let turns = 4_000_000 / (4 * n);
         let mut r = [[0f64; 4]; 5];
-        for _ in 0..31 {
+        for _ in 0..400 {
             let held = |ks: [usize; 4]| ks.map(|k| src[k]);
             best(&mut r[0][3], 4 * n, turns, || black_box(&mut copy).copy_from_slice(black_box(&whole)));
             for k in 1..5 {

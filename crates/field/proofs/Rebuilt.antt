@@ -9,7 +9,7 @@ use mathlib.Core.List.{List, [], _∷_}
 use lib.Dec.{eqb, ltb, T, lt→ltb, eqb→eq}
 use Rattle.field.specs.Field.{double, by, times, Row, row, dot, map4}
 use Rattle.field.specs.Stripe.{Rows, generator, inverse, keyOf, encoded, decoded, Held, held, pieceAt, rebuilt, rowBy, rowFor, keyBut, lostRow}
-use Rattle.field.proofs.Bytes.{below, left, right, at, Lin, dot-lin, comp-lin, test1, test, agree}
+use Rattle.field.proofs.Bytes.{below, left, right, at, Lin, dot-lin, comp-lin, test1, test, agree, first-lin, second-lin, third-lin}
 use Rattle.field.proofs.Undone.{Is, rises, both}
 use Rattle.field.proofs.Pieces.{Good, comp, same, one, two, three, four, is-one, is-two, is-three, is-four}
 
@@ -148,3 +148,40 @@ module _ (p q r s : ℕ) (pq : p < q) (qr : q < r) (rs : r < s) (s6 : s < 6) (n 
 
   pub fourth-held : rebuilt (heldFour p q r s x y z w) s ≡ w
   fourth-held = by-row s s6 ∙ ap (λ m. map4 (dot m) x y z w) (chosen-rows p q r s pq qr rs s6 .four) ∙ same _ _ is-four n x y z w gx gy gz gw ∙ four n x y z w gx gw
+
+-- Of two lost data pieces, where one is made anew the other is the sum of it, the two data pieces that are left, and P.
+abbrev summed : ℕ → ℕ → ℕ → ℕ → ℕ → ℕ → ℕ
+summed i j x y z w = dot (generator 4) x y z (dot (lostRow j i) x y z w)
+
+pairs : ℕ → ℕ → Bool
+pairs i j = elim (eqb i j) [ true ↦ true | false ↦ test (summed i j) (dot (lostRow i j)) ]
+
+every-pair : T (below (λ i. below (λ j. pairs i j) 4) 4)
+unfolding below pairs test test1 lostRow inverse dot times by double
+every-pair = tt
+
+apart : (i j : ℕ) (b : Bool) → i ≢ j → T (elim (eqb i j) [ true ↦ true | false ↦ b ]) → T b
+apart i j b ne t = go (eqb i j) refl t
+  where
+    go : (e : Bool) → eqb i j ≡ e → T (elim e [ true ↦ true | false ↦ b ]) → T b
+    go true h u = absurd (ne (eqb→eq i j (subst T (sym h) tt)))
+    go false h u = u
+
+summed-is : (i j : ℕ) → i < 4 → j < 4 → i ≢ j → Is (summed i j) (dot (lostRow i j))
+unfolding pairs
+summed-is i j hi hj ne =
+    agree (summed i j) (dot (lostRow i j))
+    (comp-lin (dot (generator 4)) (λ x y z w. x) (λ x y z w. y) (λ x y z w. z) (dot (lostRow j i)) (dot-lin (generator 4)) first-lin second-lin third-lin (dot-lin (lostRow j i)))
+    (dot-lin (lostRow i j))
+    (apart i j (test (summed i j) (dot (lostRow i j))) ne (at (λ j. pairs i j) 4 (at (λ i. below (λ j. pairs i j) 4) 4 every-pair i hi) j hj))
+
+pub other-lost : (i j : ℕ) → i < 4 → j < 4 → i ≢ j → (n : ℕ) (x y z w : List ℕ) → Good n x → Good n y → Good n z → Good n w →
+    map4 (dot (generator 4)) x y z (map4 (dot (lostRow j i)) x y z w) ≡ map4 (dot (lostRow i j)) x y z w
+other-lost i j hi hj ne n x y z w gx gy gz gw =
+    let a = one n x y z w gx in
+    let b = two n x y z w gx gy in
+    let c = three n x y z w gx gz in
+    let e = comp (dot (generator 4)) (λ x y z w. x) (λ x y z w. y) (λ x y z w. z) (dot (lostRow j i)) x y z w in
+    let s = same (summed i j) (dot (lostRow i j)) (summed-is i j hi hj ne) n x y z w gx gy gz gw in
+    let f : map4 (dot (generator 4)) x y z (map4 (dot (lostRow j i)) x y z w) ≡ map4 (dot (generator 4)) (map4 (λ x y z w. x) x y z w) (map4 (λ x y z w. y) x y z w) (map4 (λ x y z w. z) x y z w) (map4 (dot (lostRow j i)) x y z w) = cc in
+    f ∙ e ∙ s
