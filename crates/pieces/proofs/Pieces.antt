@@ -9,9 +9,9 @@ use lib.ListN.{length, getD}
 use mir.Syntax.{w8}
 use mir.Val.{Fits}
 use Rattle.field.specs.Field.{dot, map4}
-use Rattle.field.specs.Stripe.{encoded, decoded, rebuilt, lostRow}
+use Rattle.field.specs.Stripe.{encoded, decoded, rebuilt, lostRow, generator}
 use Rattle.field.proofs.Pieces.{Good}
-use Rattle.field.proofs.Rebuilt.{heldFour, by-row, first-held, second-held, third-held, fourth-held, lost-row}
+use Rattle.field.proofs.Rebuilt.{heldFour, by-row, first-held, second-held, third-held, fourth-held, lost-row, other-lost}
 
 good-bytes : (x : List ℕ) → ((k : ℕ) → Fits w8 (getD x k 0)) → Good (length x) x
 good-bytes [] f = tt
@@ -48,6 +48,22 @@ module _ (p q r s n : ℕ) (x y z w : List ℕ) (h : Four p q r s n x y z w) whe
   is-lost t t6 np nq nr ns =
     sym (by-row p q r s (h .pq) (h .qr) (h .rs) (h .s6) n x y z w (h .gx) (h .gy) (h .gz) (h .gw) t t6
       ∙ ap (λ m. map4 (dot m) x y z w) (lost-row p q r s t (h .pq) (h .qr) (h .rs) (h .s6) t6 np nq nr ns))
+
+  -- two lost data pieces, i and j
+  module _ (i j : ℕ) (hi : i < 4) (hj : j < 4) (ij : i ≢ j) (ip : i ≢ p) (iq : i ≢ q) (jp : j ≢ p) (jq : j ≢ q) (r4 : r ≡ 4) where
+    s5 : s ≡ 5
+    s5 = let a = h .rs in let b = h .s6 in omega arith
+
+    pub is-one-lost : map4 (dot (lostRow i j)) x y z w ≡ rebuilt (heldFour p q r s x y z w) i
+    is-one-lost =
+      let a = h .pq in
+      let b = h .qr in
+      let c = s5 in
+      let e : 15 - p - q - r - s - i ≡ j = omega arith in
+      ap (λ o. map4 (dot (lostRow i o)) x y z w) (sym e) ∙ is-lost i (omega arith) ip iq (omega arith) (omega arith)
+
+    pub is-other-lost : map4 (dot (generator 4)) x y z (map4 (dot (lostRow j i)) x y z w) ≡ rebuilt (heldFour p q r s x y z w) i
+    is-other-lost = other-lost i j hi hj ij n x y z w (h .gx) (h .gy) (h .gz) (h .gw) ∙ is-one-lost
 
 -- the first four pieces made anew are the data
 pub all-data : (p q r s : ℕ) (x y z w a b c d : List ℕ) → let hs = heldFour p q r s x y z w in a ≡ rebuilt hs 0 → b ≡ rebuilt hs 1 → c ≡ rebuilt hs 2 → d ≡ rebuilt hs 3 → a ∷ b ∷ c ∷ d ∷ [] ≡ decoded hs

@@ -4,6 +4,7 @@ ghost use lib.Dec.{ltb};
 ghost use lib.ListN.{getD, length};
 ghost use mathlib.Core.Bool.{cond, _&&_};
 ghost use mathlib.Core.List.{[], _∷_};
+ghost use mathlib.Core.Logic.{_≢_};
 ghost use mathlib.Core.Path.{_≡_};
 ghost use Rattle.field.specs.Stripe.{decoded, held, parityP, parityQ, rebuilt};
 ghost use Rattle.pieces.specs.Accepted.{allOf, rising};
@@ -16,6 +17,7 @@ use lanes::WIDTH;
 use losses::fill_lost;
 use parity::encode_bytes;
 use parity::encode_vectors;
+use sums::blend;
 
 // A piece that is at hand, and its place in the stripe: 0 to 3 for data, 4 for P, 5 for Q.
 #[derive(Clone, Copy)]
@@ -81,6 +83,48 @@ pub fn rebuild(w: Held, x: Held, y: Held, z: Held, wanted: usize, out: &mut [u8]
     false
 }
 
+// The data where two pieces of it are lost: the second of these by its coefficients, and the first as the sum of all but Q.
+fn two_lost(places: [usize; 4], w: &[u8], x: &[u8], y: &[u8], z: &[u8], k: &mut [u8], l: &mut [u8], first: usize, one: &mut [u8], second: usize, two: &mut [u8])
+    requires { ⌜ getD places 0 0 < getD places 1 0 ⌝ ∗ ⌜ getD places 1 0 < getD places 2 0 ⌝ ∗ ⌜ getD places 2 0 < getD places 3 0 ⌝ ∗ ⌜ getD places 3 0 < 6 ⌝ }
+    requires { ⌜ length (now x) ≡ length (now w) ⌝ ∗ ⌜ length (now y) ≡ length (now w) ⌝ ∗ ⌜ length (now z) ≡ length (now w) ⌝ }
+    requires { ⌜ length (now k) ≡ length (now w) ⌝ ∗ ⌜ length (now l) ≡ length (now w) ⌝ ∗ ⌜ length (now one) ≡ length (now w) ⌝ ∗ ⌜ length (now two) ≡ length (now w) ⌝ }
+    requires { ⌜ getD places 2 0 ≡ 4 ⌝ ∗ ⌜ first < second ⌝ ∗ ⌜ second < 4 ⌝ }
+    requires { ⌜ first ≢ getD places 0 0 ⌝ ∗ ⌜ first ≢ getD places 1 0 ⌝ ∗ ⌜ second ≢ getD places 0 0 ⌝ ∗ ⌜ second ≢ getD places 1 0 ⌝ }
+    ensures k { λ _. ⌜ now (k .exit) ≡ rebuilt (held (getD places 0 0) (now (w .entry)) ∷ held (getD places 1 0) (now (x .entry)) ∷ held (getD places 2 0) (now (y .entry)) ∷ held (getD places 3 0) (now (z .entry)) ∷ []) (getD places 0 0) ⌝ }
+    ensures l { λ _. ⌜ now (l .exit) ≡ rebuilt (held (getD places 0 0) (now (w .entry)) ∷ held (getD places 1 0) (now (x .entry)) ∷ held (getD places 2 0) (now (y .entry)) ∷ held (getD places 3 0) (now (z .entry)) ∷ []) (getD places 1 0) ⌝ }
+    ensures one { λ _. ⌜ now (one .exit) ≡ rebuilt (held (getD places 0 0) (now (w .entry)) ∷ held (getD places 1 0) (now (x .entry)) ∷ held (getD places 2 0) (now (y .entry)) ∷ held (getD places 3 0) (now (z .entry)) ∷ []) first ⌝ }
+    ensures two { λ _. ⌜ now (two .exit) ≡ rebuilt (held (getD places 0 0) (now (w .entry)) ∷ held (getD places 1 0) (now (x .entry)) ∷ held (getD places 2 0) (now (y .entry)) ∷ held (getD places 3 0) (now (z .entry)) ∷ []) second ⌝ }
+{
+    k.copy_from_slice(w);
+    l.copy_from_slice(x);
+    fill_lost(second, first, w, x, y, z, two);
+    blend::<1, 1, 1, 1>(w, x, y, two, one);
+}
+
+// The four data pieces, of four pieces at rising places.
+fn data_pieces(places: [usize; 4], w: &[u8], x: &[u8], y: &[u8], z: &[u8], a: &mut [u8], b: &mut [u8], c: &mut [u8], d: &mut [u8])
+    requires { ⌜ getD places 0 0 < getD places 1 0 ⌝ ∗ ⌜ getD places 1 0 < getD places 2 0 ⌝ ∗ ⌜ getD places 2 0 < getD places 3 0 ⌝ ∗ ⌜ getD places 3 0 < 6 ⌝ }
+    requires { ⌜ length (now x) ≡ length (now w) ⌝ ∗ ⌜ length (now y) ≡ length (now w) ⌝ ∗ ⌜ length (now z) ≡ length (now w) ⌝ }
+    requires { ⌜ length (now a) ≡ length (now w) ⌝ ∗ ⌜ length (now b) ≡ length (now w) ⌝ ∗ ⌜ length (now c) ≡ length (now w) ⌝ ∗ ⌜ length (now d) ≡ length (now w) ⌝ }
+    ensures { λ _. ⌜ now (a .exit) ∷ now (b .exit) ∷ now (c .exit) ∷ now (d .exit) ∷ [] ≡ decoded (held (getD places 0 0) (now (w .entry)) ∷ held (getD places 1 0) (now (x .entry)) ∷ held (getD places 2 0) (now (y .entry)) ∷ held (getD places 3 0) (now (z .entry)) ∷ []) ⌝ }
+{
+    if places[2] != 4 {
+        piece(places, w, x, y, z, 0, a);
+        piece(places, w, x, y, z, 1, b);
+        piece(places, w, x, y, z, 2, c);
+        piece(places, w, x, y, z, 3, d);
+        return;
+    }
+    match places[0] * 4 + places[1] {
+        1 => two_lost(places, w, x, y, z, a, b, 2, c, 3, d),
+        2 => two_lost(places, w, x, y, z, a, c, 1, b, 3, d),
+        3 => two_lost(places, w, x, y, z, a, d, 1, b, 2, c),
+        6 => two_lost(places, w, x, y, z, b, c, 0, a, 3, d),
+        7 => two_lost(places, w, x, y, z, b, d, 0, a, 2, c),
+        _ => two_lost(places, w, x, y, z, c, d, 0, a, 1, b),
+    }
+}
+
 // The four data pieces of any four pieces. Refused, and nothing is written, where the four are not of rising places or lengths differ.
 pub fn decode(w: Held, x: Held, y: Held, z: Held, a: &mut [u8], b: &mut [u8], c: &mut [u8], d: &mut [u8]) -> bool
     ensures answer { λ r. ⌜ r ≡ (rising (w .entry .place) (x .entry .place) (y .entry .place) (z .entry .place) && allOf (length (now (w .entry .bytes))) (now (x .entry .bytes) ∷ now (y .entry .bytes) ∷ now (z .entry .bytes) ∷ [])) && allOf (length (now (w .entry .bytes))) (now (a .entry) ∷ now (b .entry) ∷ now (c .entry) ∷ now (d .entry) ∷ []) ⌝ }
@@ -88,11 +132,7 @@ pub fn decode(w: Held, x: Held, y: Held, z: Held, a: &mut [u8], b: &mut [u8], c:
 {
     let n = w.bytes.len();
     if four_of_six(w, x, y, z) && a.len() == n && b.len() == n && c.len() == n && d.len() == n {
-        let places = [w.place, x.place, y.place, z.place];
-        piece(places, w.bytes, x.bytes, y.bytes, z.bytes, 0, a);
-        piece(places, w.bytes, x.bytes, y.bytes, z.bytes, 1, b);
-        piece(places, w.bytes, x.bytes, y.bytes, z.bytes, 2, c);
-        piece(places, w.bytes, x.bytes, y.bytes, z.bytes, 3, d);
+        data_pieces([w.place, x.place, y.place, z.place], w.bytes, x.bytes, y.bytes, z.bytes, a, b, c, d);
         return true;
     }
     false
