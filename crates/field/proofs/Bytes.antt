@@ -96,11 +96,11 @@ fourth-lin = record { small = λ x y z w a b c d. d; sum = λ x y z w p q r s a 
 pub dot-lin : (m : Row) → Lin (dot m)
 unfolding dot times
 dot-lin m = record {
-    small = λ x y z w hx hy hz hw.
+  small = λ x y z w hx hy hz hw.
       xor-lt 8 (times (m .a) x) (bitXor (times (m .b) y) (bitXor (times (m .c) z) (times (m .d) w))) (by-lt 8 (m .a) x hx)
       (xor-lt 8 (times (m .b) y) (bitXor (times (m .c) z) (times (m .d) w)) (by-lt 8 (m .b) y hy)
       (xor-lt 8 (times (m .c) z) (times (m .d) w) (by-lt 8 (m .c) z hz) (by-lt 8 (m .d) w hw)));
-    sum = λ x y z w p q r s hx hy hz hw hp hq hr hs.
+  sum = λ x y z w p q r s hx hy hz hw hp hq hr hs.
       let ea = by-xor 8 (m .a) x p hx hp in
       let eb = by-xor 8 (m .b) y q hy hq in
       let ec = by-xor 8 (m .c) z r hz hr in
@@ -108,18 +108,20 @@ dot-lin m = record {
       let s1 = swap (by 8 (m .c) z) (by 8 (m .c) r) (by 8 (m .d) w) (by 8 (m .d) s) in
       let s2 = swap (by 8 (m .b) y) (by 8 (m .b) q) (bitXor (by 8 (m .c) z) (by 8 (m .d) w)) (bitXor (by 8 (m .c) r) (by 8 (m .d) s)) in
       let s3 = swap (by 8 (m .a) x) (by 8 (m .a) p) (bitXor (by 8 (m .b) y) (bitXor (by 8 (m .c) z) (by 8 (m .d) w))) (bitXor (by 8 (m .b) q) (bitXor (by 8 (m .c) r) (by 8 (m .d) s))) in
-      cc }
+      cc;
+}
 
 pub comp-lin : (F G H I J : ℕ → ℕ → ℕ → ℕ → ℕ) → Lin F → Lin G → Lin H → Lin I → Lin J → Lin (λ x y z w. F (G x y z w) (H x y z w) (I x y z w) (J x y z w))
 comp-lin F G H I J f g h i j = record {
-    small = λ x y z w hx hy hz hw. f .small (G x y z w) (H x y z w) (I x y z w) (J x y z w) (g .small x y z w hx hy hz hw) (h .small x y z w hx hy hz hw) (i .small x y z w hx hy hz hw) (j .small x y z w hx hy hz hw);
-    sum = λ x y z w p q r s hx hy hz hw hp hq hr hs. 
+  small = λ x y z w hx hy hz hw. f .small (G x y z w) (H x y z w) (I x y z w) (J x y z w) (g .small x y z w hx hy hz hw) (h .small x y z w hx hy hz hw) (i .small x y z w hx hy hz hw) (j .small x y z w hx hy hz hw);
+  sum = λ x y z w p q r s hx hy hz hw hp hq hr hs.
       let eg = g .sum x y z w p q r s hx hy hz hw hp hq hr hs in
       let eh = h .sum x y z w p q r s hx hy hz hw hp hq hr hs in
       let ei = i .sum x y z w p q r s hx hy hz hw hp hq hr hs in
       let ej = j .sum x y z w p q r s hx hy hz hw hp hq hr hs in
       let last = f .sum (G x y z w) (H x y z w) (I x y z w) (J x y z w) (G p q r s) (H p q r s) (I p q r s) (J p q r s) (g .small x y z w hx hy hz hw) (h .small x y z w hx hy hz hw) (i .small x y z w hx hy hz hw) (j .small x y z w hx hy hz hw) (g .small p q r s hp hq hr hs) (h .small p q r s hp hq hr hs) (i .small p q r s hp hq hr hs) (j .small p q r s hp hq hr hs) in
-      cc }
+      cc;
+}
 
 -- two such functions of one byte agree where they do at 0 and at the powers of 2
 unfoldable pub test1 : (ℕ → ℕ) → (ℕ → ℕ) → Bool
@@ -139,13 +141,14 @@ either : (x k : ℕ) → x < 2 ^ suc k → (x < 2 ^ k) ⊎ ((y : ℕ) × (y < 2 
 either x k h =
     let e = pow-suc 2 k in
     elim (split x (2 ^ k)) [
-      inl l ↦ inl l
-    | inr g ↦
-      let l : x - 2 ^ k < 2 ^ k = omega arith in
-      let o = one-mul (2 ^ k) in
-      let j = xor-shifted 1 k (x - 2 ^ k) l in
-      let j' : bitXor (2 ^ k) (x - 2 ^ k) ≡ 1 * 2 ^ k + (x - 2 ^ k) = sym (ap (λ m. bitXor m (x - 2 ^ k)) o) ∙ j in
-      inr (x - 2 ^ k, l, omega arith) ]
+      | inl l ↦ inl l
+      | inr g ↦
+          let l : x - 2 ^ k < 2 ^ k = omega arith in
+          let o = one-mul (2 ^ k) in
+          let j = xor-shifted 1 k (x - 2 ^ k) l in
+          let j' : bitXor (2 ^ k) (x - 2 ^ k) ≡ 1 * 2 ^ k + (x - 2 ^ k) = sym (ap (λ m. bitXor m (x - 2 ^ k)) o) ∙ j in
+          inr (x - 2 ^ k, l, omega arith)
+    ]
 
 basis : (f g : ℕ → ℕ) → Sum1 f → Sum1 g → T (test1 f g) → (k : ℕ) → k ≤ 8 → (x : ℕ) → x < 2 ^ k → f x ≡ g x
 unfolding test1
@@ -155,16 +158,17 @@ basis f g fs gs t zero le x h =
     cc
 basis f g fs gs t (suc k) le x h =
     elim (either x k h) [
-      inl l ↦ basis f g fs gs t k (omega arith) x l
-    | inr q ↦
-      let small : 2 ^ k < 256 = ltb→lt (2 ^ k) 256 (at (λ k. ltb (2 ^ k) 256) 8 powers k (omega arith)) in
-      let there : f (2 ^ k) ≡ g (2 ^ k) = eqb→eq (f (2 ^ k)) (g (2 ^ k)) (at (λ k. eqb (f (2 ^ k)) (g (2 ^ k))) 8 (right (eqb (f 0) (g 0)) (below (λ k. eqb (f (2 ^ k)) (g (2 ^ k))) 8) t) k (omega arith)) in
-      let down : f (q .0) ≡ g (q .0) = basis f g fs gs t k (omega arith) (q .0) (q .1) in
-      let ylt : q .0 < 256 = omega (arith, q .1) in
-      let ef = fs (2 ^ k) (q .0) small ylt in
-      let eg = gs (2 ^ k) (q .0) small ylt in
-      let xe = q .2 in
-      cc ]
+      | inl l ↦ basis f g fs gs t k (omega arith) x l
+      | inr q ↦
+          let small : 2 ^ k < 256 = ltb→lt (2 ^ k) 256 (at (λ k. ltb (2 ^ k) 256) 8 powers k (omega arith)) in
+          let there : f (2 ^ k) ≡ g (2 ^ k) = eqb→eq (f (2 ^ k)) (g (2 ^ k)) (at (λ k. eqb (f (2 ^ k)) (g (2 ^ k))) 8 (right (eqb (f 0) (g 0)) (below (λ k. eqb (f (2 ^ k)) (g (2 ^ k))) 8) t) k (omega arith)) in
+          let down : f (q .0) ≡ g (q .0) = basis f g fs gs t k (omega arith) (q .0) (q .1) in
+          let ylt : q .0 < 256 = omega (arith, q .1) in
+          let ef = fs (2 ^ k) (q .0) small ylt in
+          let eg = gs (2 ^ k) (q .0) small ylt in
+          let xe = q .2 in
+          cc
+    ]
 
 -- two linear functions agree where they do on each byte alone
 unfoldable pub test : (ℕ → ℕ → ℕ → ℕ → ℕ) → (ℕ → ℕ → ℕ → ℕ → ℕ) → Bool

@@ -13,20 +13,22 @@ use Rattle.field.proofs.Bytes.{below, test, test1, Lin, dot-lin, agree, double
 -- a sum of two linear functions, and twice one
 pub xor-lin : (F G : ℕ → ℕ → ℕ → ℕ → ℕ) → Lin F → Lin G → Lin (λ x y z w. bitXor (F x y z w) (G x y z w))
 xor-lin F G f g = record {
-    small = λ x y z w hx hy hz hw. xor-lt 8 (F x y z w) (G x y z w) (f .small x y z w hx hy hz hw) (g .small x y z w hx hy hz hw);
-    sum = λ x y z w p q r s hx hy hz hw hp hq hr hs.
+  small = λ x y z w hx hy hz hw. xor-lt 8 (F x y z w) (G x y z w) (f .small x y z w hx hy hz hw) (g .small x y z w hx hy hz hw);
+  sum = λ x y z w p q r s hx hy hz hw hp hq hr hs.
       let ef = f .sum x y z w p q r s hx hy hz hw hp hq hr hs in
       let eg = g .sum x y z w p q r s hx hy hz hw hp hq hr hs in
       let e = swap (F x y z w) (F p q r s) (G x y z w) (G p q r s) in
-      cc }
+      cc;
+}
 
 pub double-lin : (F : ℕ → ℕ → ℕ → ℕ → ℕ) → Lin F → Lin (λ x y z w. double (F x y z w))
 double-lin F f = record {
-    small = λ x y z w hx hy hz hw. double-lt (F x y z w) (f .small x y z w hx hy hz hw);
-    sum = λ x y z w p q r s hx hy hz hw hp hq hr hs.
+  small = λ x y z w hx hy hz hw. double-lt (F x y z w) (f .small x y z w hx hy hz hw);
+  sum = λ x y z w p q r s hx hy hz hw hp hq hr hs.
       let ef = f .sum x y z w p q r s hx hy hz hw hp hq hr hs in
       let e = double-xor (F x y z w) (F p q r s) (f .small x y z w hx hy hz hw) (f .small p q r s hp hq hr hs) in
-      cc }
+      cc;
+}
 
 abbrev pub sum4 : ℕ → ℕ → ℕ → ℕ → ℕ
 sum4 w x y z = bitXor (bitXor (bitXor w x) y) z

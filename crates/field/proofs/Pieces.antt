@@ -180,26 +180,26 @@ module _ (n : ℕ) (a b c d : List ℕ) (ga : Good n a) (gb : Good n b) (gc : Go
   sized : T (lengths n (encoded (a ∷ b ∷ c ∷ d ∷ [])))
   unfolding encoded
   sized =
-    lengths-more n a _ ga (lengths-more n b _ gb (lengths-more n c _ gc (lengths-more n d _ gd
+      lengths-more n a _ ga (lengths-more n b _ gb (lengths-more n c _ gc (lengths-more n d _ gd
       (lengths-more n (map4 (dot (generator 4)) a b c d) _ (bytes (dot (generator 4)) (dot-lin (generator 4)) n a b c d ga gb gc gd)
-        (lengths-more n (map4 (dot (generator 5)) a b c d) [] (bytes (dot (generator 5)) (dot-lin (generator 5)) n a b c d ga gb gc gd) (lengths-none n))))))
+      (lengths-more n (map4 (dot (generator 5)) a b c d) [] (bytes (dot (generator 5)) (dot-lin (generator 5)) n a b c d ga gb gc gd) (lengths-none n))))))
 
   line : (m : Row) (p q r s : ℕ) (x y z w : List ℕ) (G : ℕ → ℕ → ℕ → ℕ → ℕ) → Is (after p q r s m) G → x ≡ map4 (dot (generator p)) a b c d → y ≡ map4 (dot (generator q)) a b c d → z ≡ map4 (dot (generator r)) a b c d → w ≡ map4 (dot (generator s)) a b c d →
-    map4 (dot m) x y z w ≡ map4 G a b c d
+      map4 (dot m) x y z w ≡ map4 G a b c d
   line m p q r s x y z w G is ex ey ez ew =
-    let f : map4 (dot m) x y z w ≡ map4 (dot m) (map4 (dot (generator p)) a b c d) (map4 (dot (generator q)) a b c d) (map4 (dot (generator r)) a b c d) (map4 (dot (generator s)) a b c d) = cc in
-    f ∙ comp (dot m) (dot (generator p)) (dot (generator q)) (dot (generator r)) (dot (generator s)) a b c d ∙ same (after p q r s m) G is n a b c d ga gb gc gd
+      let f : map4 (dot m) x y z w ≡ map4 (dot m) (map4 (dot (generator p)) a b c d) (map4 (dot (generator q)) a b c d) (map4 (dot (generator r)) a b c d) (map4 (dot (generator s)) a b c d) = cc in
+      f ∙ comp (dot m) (dot (generator p)) (dot (generator q)) (dot (generator r)) (dot (generator s)) a b c d ∙ same (after p q r s m) G is n a b c d ga gb gc gd
 
   joined : (p q r s : ℕ) (x y z w : List ℕ) → p < q → q < r → r < s → s < 6 → x ≡ map4 (dot (generator p)) a b c d → y ≡ map4 (dot (generator q)) a b c d → z ≡ map4 (dot (generator r)) a b c d → w ≡ map4 (dot (generator s)) a b c d →
-    inverted (inverse (keyOf p q r s)) x y z w ≡ a ∷ b ∷ c ∷ d ∷ []
+      inverted (inverse (keyOf p q r s)) x y z w ≡ a ∷ b ∷ c ∷ d ∷ []
   joined p q r s x y z w pq qr rs s6 ex ey ez ew =
-    let u = undone p q r s pq qr rs s6 in
-    let m = inverse (keyOf p q r s) in
-    let l1 : map4 (dot (m .w)) x y z w ≡ a = line (m .w) p q r s x y z w (λ x y z w. x) (u .one) ex ey ez ew ∙ one n a b c d ga in
-    let l2 : map4 (dot (m .x)) x y z w ≡ b = line (m .x) p q r s x y z w (λ x y z w. y) (u .two) ex ey ez ew ∙ two n a b c d ga gb in
-    let l3 : map4 (dot (m .y)) x y z w ≡ c = line (m .y) p q r s x y z w (λ x y z w. z) (u .three) ex ey ez ew ∙ three n a b c d ga gc in
-    let l4 : map4 (dot (m .z)) x y z w ≡ d = line (m .z) p q r s x y z w (λ x y z w. w) (u .four) ex ey ez ew ∙ four n a b c d ga gd in
-    cc
+      let u = undone p q r s pq qr rs s6 in
+      let m = inverse (keyOf p q r s) in
+      let l1 : map4 (dot (m .w)) x y z w ≡ a = line (m .w) p q r s x y z w (λ x y z w. x) (u .one) ex ey ez ew ∙ one n a b c d ga in
+      let l2 : map4 (dot (m .x)) x y z w ≡ b = line (m .x) p q r s x y z w (λ x y z w. y) (u .two) ex ey ez ew ∙ two n a b c d ga gb in
+      let l3 : map4 (dot (m .y)) x y z w ≡ c = line (m .y) p q r s x y z w (λ x y z w. z) (u .three) ex ey ez ew ∙ three n a b c d ga gc in
+      let l4 : map4 (dot (m .z)) x y z w ≡ d = line (m .z) p q r s x y z w (λ x y z w. w) (u .four) ex ey ez ew ∙ four n a b c d ga gd in
+      cc
 
   mended : (some' : List (record { place : ℕ; bytes : List ℕ })) → length some' ≡ 4 → Among (encoded (a ∷ b ∷ c ∷ d ∷ [])) 0 some' → decoded some' ≡ a ∷ b ∷ c ∷ d ∷ []
   unfolding decoded
@@ -208,17 +208,17 @@ module _ (n : ℕ) (a b c d : List ℕ) (ga : Good n a) (gb : Good n b) (gc : Go
   mended (x ∷ y ∷ []) e m = absurd (omega arith)
   mended (x ∷ y ∷ z ∷ []) e m = absurd (omega arith)
   mended (x ∷ y ∷ z ∷ w ∷ []) e m =
-    let all = encoded (a ∷ b ∷ c ∷ d ∷ []) in
-    let l = six in
-    let i = among all 0 x (y ∷ z ∷ w ∷ []) m in
-    let j = among all (suc (x .place)) y (z ∷ w ∷ []) (i .2) in
-    let k = among all (suc (y .place)) z (w ∷ []) (j .2) in
-    let o = among all (suc (z .place)) w [] (k .2) in
-    let ai = at-nth all (x .place) (x .bytes) (i .1) in
-    let aj = at-nth all (y .place) (y .bytes) (j .1) in
-    let ak = at-nth all (z .place) (z .bytes) (k .1) in
-    let ao = at-nth all (w .place) (w .bytes) (o .1) in
-    joined (x .place) (y .place) (z .place) (w .place) (x .bytes) (y .bytes) (z .bytes) (w .bytes) (j .0) (k .0) (o .0) (subst (λ t. w .place < t) l (ao .0))
+      let all = encoded (a ∷ b ∷ c ∷ d ∷ []) in
+      let l = six in
+      let i = among all 0 x (y ∷ z ∷ w ∷ []) m in
+      let j = among all (suc (x .place)) y (z ∷ w ∷ []) (i .2) in
+      let k = among all (suc (y .place)) z (w ∷ []) (j .2) in
+      let o = among all (suc (z .place)) w [] (k .2) in
+      let ai = at-nth all (x .place) (x .bytes) (i .1) in
+      let aj = at-nth all (y .place) (y .bytes) (j .1) in
+      let ak = at-nth all (z .place) (z .bytes) (k .1) in
+      let ao = at-nth all (w .place) (w .bytes) (o .1) in
+      joined (x .place) (y .place) (z .place) (w .place) (x .bytes) (y .bytes) (z .bytes) (w .bytes) (j .0) (k .0) (o .0) (subst (λ t. w .place < t) l (ao .0))
       (ai .1 ∙ rowed (x .place) (subst (λ t. x .place < t) l (ai .0))) (aj .1 ∙ rowed (y .place) (subst (λ t. y .place < t) l (aj .0))) (ak .1 ∙ rowed (z .place) (subst (λ t. z .place < t) l (ak .0))) (ao .1 ∙ rowed (w .place) (subst (λ t. w .place < t) l (ao .0)))
   mended (x ∷ y ∷ z ∷ w ∷ v ∷ vs) e m = absurd (omega arith)
 

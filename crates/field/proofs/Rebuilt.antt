@@ -86,7 +86,8 @@ chosen-rows p q r s pq qr rs s6 =
       three = same-row _ _ (left c (cond d (cond e f false) false) t2);
       four = same-row _ _ (left d (cond e f false) t3);
       sum = agree _ _ (made-lin (generator 4) m) (dot-lin (rowBy (generator 4) m)) (left e f t4);
-      weighted = agree _ _ (made-lin (generator 5) m) (dot-lin (rowBy (generator 5) m)) (right e f t4) }
+      weighted = agree _ _ (made-lin (generator 5) m) (dot-lin (rowBy (generator 5) m)) (right e f t4);
+    }
 
 -- the other lost place is what the five leave of 15, the sum of all places
 lost : ℕ → ℕ → ℕ → ℕ → ℕ → Bool
@@ -110,11 +111,11 @@ pub lost-row : (p q r s t : ℕ) → p < q → q < r → r < s → s < 6 → t <
 unfolding rising-lost lost lostRow
 lost-row p q r s t pq qr rs s6 t6 np nq nr ns =
     let all = rises (cond (ltb p q) (cond (ltb q r) (ltb r s) false) false) (below (lost p q r s) 6)
-          (both (ltb p q) (cond (ltb q r) (ltb r s) false) (lt→ltb p q pq) (both (ltb q r) (ltb r s) (lt→ltb q r qr) (lt→ltb r s rs)))
-          (at (λ s. rising-lost p q r s) 6 (at (λ r. below (λ s. rising-lost p q r s) 6) 6 (at (λ q. below (λ r. below (λ s. rising-lost p q r s) 6) 6) 6 (at (λ p. below (λ q. below (λ r. below (λ s. rising-lost p q r s) 6) 6) 6) 6 every-lost p (omega arith)) q (omega arith)) r (omega arith)) s s6) in
+    (both (ltb p q) (cond (ltb q r) (ltb r s) false) (lt→ltb p q pq) (both (ltb q r) (ltb r s) (lt→ltb q r qr) (lt→ltb r s rs)))
+    (at (λ s. rising-lost p q r s) 6 (at (λ r. below (λ s. rising-lost p q r s) 6) 6 (at (λ q. below (λ r. below (λ s. rising-lost p q r s) 6) 6) 6 (at (λ p. below (λ q. below (λ r. below (λ s. rising-lost p q r s) 6) 6) 6) 6 every-lost p (omega arith)) q (omega arith)) r (omega arith)) s s6) in
     let here = rises (cond (eqb t p) false (cond (eqb t q) false (cond (eqb t r) false (cond (eqb t s) false true)))) (eqb (keyOf p q r s) (keyBut t (15 - p - q - r - s - t)))
-          (unequal t p (cond (eqb t q) false (cond (eqb t r) false (cond (eqb t s) false true))) np (unequal t q (cond (eqb t r) false (cond (eqb t s) false true)) nq (unequal t r (cond (eqb t s) false true) nr (unequal t s true ns tt))))
-          (at (lost p q r s) 6 all t t6) in
+    (unequal t p (cond (eqb t q) false (cond (eqb t r) false (cond (eqb t s) false true))) np (unequal t q (cond (eqb t r) false (cond (eqb t s) false true)) nq (unequal t r (cond (eqb t s) false true) nr (unequal t s true ns tt))))
+    (at (lost p q r s) 6 all t t6) in
     ap (λ k. rowFor k t) (eqb→eq (keyOf p q r s) (keyBut t (15 - p - q - r - s - t)) here)
 
 abbrev pub heldFour : ℕ → ℕ → ℕ → ℕ → List ℕ → List ℕ → List ℕ → List ℕ → List Held
@@ -129,11 +130,11 @@ module _ (p q r s : ℕ) (pq : p < q) (qr : q < r) (rs : r < s) (s6 : s < 6) (n 
   by-row (suc (suc zero)) h = refl
   by-row (suc (suc (suc zero))) h = refl
   by-row (suc (suc (suc (suc zero)))) h =
-    let m = inverse (keyOf p q r s) in
-    comp (dot (generator 4)) (dot (m .w)) (dot (m .x)) (dot (m .y)) (dot (m .z)) x y z w ∙ same _ _ (chosen-rows p q r s pq qr rs s6 .sum) n x y z w gx gy gz gw
+      let m = inverse (keyOf p q r s) in
+      comp (dot (generator 4)) (dot (m .w)) (dot (m .x)) (dot (m .y)) (dot (m .z)) x y z w ∙ same _ _ (chosen-rows p q r s pq qr rs s6 .sum) n x y z w gx gy gz gw
   by-row (suc (suc (suc (suc (suc zero))))) h =
-    let m = inverse (keyOf p q r s) in
-    comp (dot (generator 5)) (dot (m .w)) (dot (m .x)) (dot (m .y)) (dot (m .z)) x y z w ∙ same _ _ (chosen-rows p q r s pq qr rs s6 .weighted) n x y z w gx gy gz gw
+      let m = inverse (keyOf p q r s) in
+      comp (dot (generator 5)) (dot (m .w)) (dot (m .x)) (dot (m .y)) (dot (m .z)) x y z w ∙ same _ _ (chosen-rows p q r s pq qr rs s6 .weighted) n x y z w gx gy gz gw
   by-row (suc (suc (suc (suc (suc (suc t)))))) h = absurd (omega arith)
 
   -- a held piece is itself

@@ -67,4 +67,5 @@ undone p q r s pq qr rs s6 =
       one = agree (after p q r s (m .w)) (λ x y z w. x) (after-lin p q r s (m .w)) first-lin (ts .0);
       two = agree (after p q r s (m .x)) (λ x y z w. y) (after-lin p q r s (m .x)) second-lin (ts .1);
       three = agree (after p q r s (m .y)) (λ x y z w. z) (after-lin p q r s (m .y)) third-lin (ts .2);
-      four = agree (after p q r s (m .z)) (λ x y z w. w) (after-lin p q r s (m .z)) fourth-lin (ts .3) }
+      four = agree (after p q r s (m .z)) (λ x y z w. w) (after-lin p q r s (m .z)) fourth-lin (ts .3);
+    }

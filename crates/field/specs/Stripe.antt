@@ -48,21 +48,21 @@ keyOf p q r s = p * 216 + q * 36 + r * 6 + s
 -- the inverse of the generator's rows of four places, for each of the fifteen choices; the last stands for 2, 3, 4, 5
 unfoldable pub inverse : ℕ → Rows
 inverse key =
-  cond (eqb key 51) (record { w = row 1 0 0 0; x = row 0 1 0 0; y = row 0 0 1 0; z = row 0 0 0 1 }) (
-  cond (eqb key 52) (record { w = row 1 0 0 0; x = row 0 1 0 0; y = row 0 0 1 0; z = row 1 1 1 1 }) (
-  cond (eqb key 53) (record { w = row 1 0 0 0; x = row 0 1 0 0; y = row 0 0 1 0; z = row 173 71 142 173 }) (
-  cond (eqb key 58) (record { w = row 1 0 0 0; x = row 0 1 0 0; y = row 1 1 1 1; z = row 0 0 1 0 }) (
-  cond (eqb key 59) (record { w = row 1 0 0 0; x = row 0 1 0 0; y = row 71 142 2 71; z = row 0 0 1 0 }) (
-  cond (eqb key 65) (record { w = row 1 0 0 0; x = row 0 1 0 0; y = row 200 143 245 61; z = row 201 142 244 61 }) (
-  cond (eqb key 94) (record { w = row 1 0 0 0; x = row 1 1 1 1; y = row 0 1 0 0; z = row 0 0 1 0 }) (
-  cond (eqb key 95) (record { w = row 1 0 0 0; x = row 142 2 4 142; y = row 0 1 0 0; z = row 0 0 1 0 }) (
-  cond (eqb key 101) (record { w = row 1 0 0 0; x = row 123 245 166 221; y = row 0 1 0 0; z = row 122 244 167 221 }) (
-  cond (eqb key 137) (record { w = row 1 0 0 0; x = row 143 2 245 122; y = row 142 3 244 122; z = row 0 1 0 0 }) (
-  cond (eqb key 310) (record { w = row 1 1 1 1; x = row 1 0 0 0; y = row 0 1 0 0; z = row 0 0 1 0 }) (
-  cond (eqb key 311) (record { w = row 2 4 8 1; x = row 1 0 0 0; y = row 0 1 0 0; z = row 0 0 1 0 }) (
-  cond (eqb key 317) (record { w = row 187 210 156 157; x = row 1 0 0 0; y = row 0 1 0 0; z = row 186 211 157 157 }) (
-  cond (eqb key 353) (record { w = row 245 247 166 167; x = row 1 0 0 0; y = row 244 246 167 167; z = row 0 1 0 0 }) (
-  record { w = row 2 6 245 244; x = row 3 7 244 244; y = row 1 0 0 0; z = row 0 1 0 0 }))))))))))))))
+    cond (eqb key 51) (record { w = row 1 0 0 0; x = row 0 1 0 0; y = row 0 0 1 0; z = row 0 0 0 1 }) (
+    cond (eqb key 52) (record { w = row 1 0 0 0; x = row 0 1 0 0; y = row 0 0 1 0; z = row 1 1 1 1 }) (
+    cond (eqb key 53) (record { w = row 1 0 0 0; x = row 0 1 0 0; y = row 0 0 1 0; z = row 173 71 142 173 }) (
+    cond (eqb key 58) (record { w = row 1 0 0 0; x = row 0 1 0 0; y = row 1 1 1 1; z = row 0 0 1 0 }) (
+    cond (eqb key 59) (record { w = row 1 0 0 0; x = row 0 1 0 0; y = row 71 142 2 71; z = row 0 0 1 0 }) (
+    cond (eqb key 65) (record { w = row 1 0 0 0; x = row 0 1 0 0; y = row 200 143 245 61; z = row 201 142 244 61 }) (
+    cond (eqb key 94) (record { w = row 1 0 0 0; x = row 1 1 1 1; y = row 0 1 0 0; z = row 0 0 1 0 }) (
+    cond (eqb key 95) (record { w = row 1 0 0 0; x = row 142 2 4 142; y = row 0 1 0 0; z = row 0 0 1 0 }) (
+    cond (eqb key 101) (record { w = row 1 0 0 0; x = row 123 245 166 221; y = row 0 1 0 0; z = row 122 244 167 221 }) (
+    cond (eqb key 137) (record { w = row 1 0 0 0; x = row 143 2 245 122; y = row 142 3 244 122; z = row 0 1 0 0 }) (
+    cond (eqb key 310) (record { w = row 1 1 1 1; x = row 1 0 0 0; y = row 0 1 0 0; z = row 0 0 1 0 }) (
+    cond (eqb key 311) (record { w = row 2 4 8 1; x = row 1 0 0 0; y = row 0 1 0 0; z = row 0 0 1 0 }) (
+    cond (eqb key 317) (record { w = row 187 210 156 157; x = row 1 0 0 0; y = row 0 1 0 0; z = row 186 211 157 157 }) (
+    cond (eqb key 353) (record { w = row 245 247 166 167; x = row 1 0 0 0; y = row 244 246 167 167; z = row 0 1 0 0 }) (
+    record { w = row 2 6 245 244; x = row 3 7 244 244; y = row 1 0 0 0; z = row 0 1 0 0 }))))))))))))))
 
 -- a piece and its place
 abbrev pub Held : Type 0

@@ -46,7 +46,7 @@ step-map F a b c d (suc n) (p ∷ w) (q ∷ x) (r ∷ y) (s ∷ z) lw lx ly lz =
 -- one bit more
 blend-more : (m : Row) (n k : ℕ) (w x y z : List ℕ) → Word n w → Word n x → Word n y → Word n z → k < 8 →
     zip2 bitXor (map double (map4 (partial m k) w x y z))
-      (zip2 bitXor (map (λ v. m .a / 2 ^ (7 - k) % 2 * v) w) (zip2 bitXor (map (λ v. m .b / 2 ^ (7 - k) % 2 * v) x) (zip2 bitXor (map (λ v. m .c / 2 ^ (7 - k) % 2 * v) y) (map (λ v. m .d / 2 ^ (7 - k) % 2 * v) z))))
+    (zip2 bitXor (map (λ v. m .a / 2 ^ (7 - k) % 2 * v) w) (zip2 bitXor (map (λ v. m .b / 2 ^ (7 - k) % 2 * v) x) (zip2 bitXor (map (λ v. m .c / 2 ^ (7 - k) % 2 * v) y) (map (λ v. m .d / 2 ^ (7 - k) % 2 * v) z))))
     ≡ map4 (partial m (k + 1)) w x y z
 blend-more m n k w x y z fw fx fy fz lt =
     step-map (partial m k) _ _ _ _ n w x y z (fw .0) (fx .0) (fy .0) (fz .0)
@@ -55,14 +55,14 @@ blend-more m n k w x y z fw fx fy fz lt =
 -- the same, from the bit k down
 pub blend-bit : (m : Row) (n k : ℕ) (w x y z : List ℕ) → Word n w → Word n x → Word n y → Word n z → k < 8 →
     zip2 bitXor (map double (map4 (partial m (7 - k)) w x y z))
-      (zip2 bitXor (map (λ v. m .a / 2 ^ k % 2 * v) w) (zip2 bitXor (map (λ v. m .b / 2 ^ k % 2 * v) x) (zip2 bitXor (map (λ v. m .c / 2 ^ k % 2 * v) y) (map (λ v. m .d / 2 ^ k % 2 * v) z))))
+    (zip2 bitXor (map (λ v. m .a / 2 ^ k % 2 * v) w) (zip2 bitXor (map (λ v. m .b / 2 ^ k % 2 * v) x) (zip2 bitXor (map (λ v. m .c / 2 ^ k % 2 * v) y) (map (λ v. m .d / 2 ^ k % 2 * v) z))))
     ≡ map4 (partial m (8 - k)) w x y z
 blend-bit m n k w x y z fw fx fy fz lt =
     let j : 7 - (7 - k) ≡ k = omega arith in
     let e : 7 - k + 1 ≡ 8 - k = omega arith in
     subst (λ i. zip2 bitXor (map double (map4 (partial m (7 - k)) w x y z))
-      (zip2 bitXor (map (λ v. m .a / 2 ^ i % 2 * v) w) (zip2 bitXor (map (λ v. m .b / 2 ^ i % 2 * v) x) (zip2 bitXor (map (λ v. m .c / 2 ^ i % 2 * v) y) (map (λ v. m .d / 2 ^ i % 2 * v) z))))
-      ≡ map4 (partial m (8 - k)) w x y z) j
+    (zip2 bitXor (map (λ v. m .a / 2 ^ i % 2 * v) w) (zip2 bitXor (map (λ v. m .b / 2 ^ i % 2 * v) x) (zip2 bitXor (map (λ v. m .c / 2 ^ i % 2 * v) y) (map (λ v. m .d / 2 ^ i % 2 * v) z))))
+    ≡ map4 (partial m (8 - k)) w x y z) j
     (blend-more m n (7 - k) w x y z fw fx fy fz (omega arith) ∙ ap (λ i. map4 (partial m i) w x y z) e)
 
 -- every bit

@@ -46,7 +46,7 @@ module _ (p q r s n : ℕ) (x y z w : List ℕ) (h : Four p q r s n x y z w) whe
 
   pub is-lost : (t : ℕ) → t < 6 → t ≢ p → t ≢ q → t ≢ r → t ≢ s → map4 (dot (lostRow t (15 - p - q - r - s - t))) x y z w ≡ rebuilt (heldFour p q r s x y z w) t
   is-lost t t6 np nq nr ns =
-    sym (by-row p q r s (h .pq) (h .qr) (h .rs) (h .s6) n x y z w (h .gx) (h .gy) (h .gz) (h .gw) t t6
+      sym (by-row p q r s (h .pq) (h .qr) (h .rs) (h .s6) n x y z w (h .gx) (h .gy) (h .gz) (h .gw) t t6
       ∙ ap (λ m. map4 (dot m) x y z w) (lost-row p q r s t (h .pq) (h .qr) (h .rs) (h .s6) t6 np nq nr ns))
 
   -- two lost data pieces, i and j
@@ -56,11 +56,11 @@ module _ (p q r s n : ℕ) (x y z w : List ℕ) (h : Four p q r s n x y z w) whe
 
     pub is-one-lost : map4 (dot (lostRow i j)) x y z w ≡ rebuilt (heldFour p q r s x y z w) i
     is-one-lost =
-      let a = h .pq in
-      let b = h .qr in
-      let c = s5 in
-      let e : 15 - p - q - r - s - i ≡ j = omega arith in
-      ap (λ o. map4 (dot (lostRow i o)) x y z w) (sym e) ∙ is-lost i (omega arith) ip iq (omega arith) (omega arith)
+        let a = h .pq in
+        let b = h .qr in
+        let c = s5 in
+        let e : 15 - p - q - r - s - i ≡ j = omega arith in
+        ap (λ o. map4 (dot (lostRow i o)) x y z w) (sym e) ∙ is-lost i (omega arith) ip iq (omega arith) (omega arith)
 
     pub is-other-lost : map4 (dot (generator 4)) x y z (map4 (dot (lostRow j i)) x y z w) ≡ rebuilt (heldFour p q r s x y z w) i
     is-other-lost = other-lost i j hi hj ij n x y z w (h .gx) (h .gy) (h .gz) (h .gw) ∙ is-one-lost

@@ -33,7 +33,7 @@ lane-is x h = eqb→eq (lane x) (double x) (at (λ x. eqb (lane x) (double x)) 2
 
 pub doubled-lanes : (n : ℕ) (x : List ℕ) → length x ≡ n → Each1 (Fits w8) x →
     zip2 bitXor (zip2 (λ a b. (a + b) % 256) x x)
-      (zip2 bitAnd (zip2 (λ a b. (a + (256 - b)) % 256) (replicate n 0) (zip2 (λ a b. a / 2 ^ b) x (replicate n 7))) (replicate n 29)) ≡ map double x
+    (zip2 bitAnd (zip2 (λ a b. (a + (256 - b)) % 256) (replicate n 0) (zip2 (λ a b. a / 2 ^ b) x (replicate n 7))) (replicate n 29)) ≡ map double x
 doubled-lanes n [] e f = refl
 doubled-lanes zero (x ∷ xs) e f = absurd (omega arith)
 doubled-lanes (suc n) (x ∷ xs) e f = let h = lane-is x (f .0 .fits) in let t = doubled-lanes n xs (suc-inj e) (f .1) in cc
@@ -48,9 +48,9 @@ module _ (F G : ℕ → ℕ → ℕ → ℕ → ℕ) (is : (w x y z : ℕ) → w
   map4-is (suc n) (a ∷ w) (b ∷ x) [] z fw fx fy fz = absurd (omega (arith, fy .0))
   map4-is (suc n) (a ∷ w) (b ∷ x) (c ∷ y) [] fw fx fy fz = absurd (omega (arith, fz .0))
   map4-is (suc n) (a ∷ w) (b ∷ x) (c ∷ y) (d ∷ z) fw fx fy fz =
-    let h = is a b c d (fw .1 .0 .fits) (fx .1 .0 .fits) (fy .1 .0 .fits) (fz .1 .0 .fits) in
-    let t = map4-is n w x y z (suc-inj (fw .0), fw .1 .1) (suc-inj (fx .0), fx .1 .1) (suc-inj (fy .0), fy .1 .1) (suc-inj (fz .0), fz .1 .1) in
-    cc
+      let h = is a b c d (fw .1 .0 .fits) (fx .1 .0 .fits) (fy .1 .0 .fits) (fz .1 .0 .fits) in
+      let t = map4-is n w x y z (suc-inj (fw .0), fw .1 .1) (suc-inj (fx .0), fx .1 .1) (suc-inj (fy .0), fy .1 .1) (suc-inj (fz .0), fz .1 .1) in
+      cc
 
 sum-map : (n : ℕ) (w x y z : List ℕ) → Word n w → Word n x → Word n y → Word n z → zip2 bitXor (zip2 bitXor (zip2 bitXor w x) y) z ≡ map4 sum4 w x y z
 unfolding map4

@@ -54,11 +54,22 @@ fn picked(x: Lanes, c: u8, k: u32) -> Lanes
     requires { ⌜ k < 8 ⌝ }
     ensures { λ r. ⌜ r ≡ map (λ v. c / 2 ^ k % 2 * v) x ⌝ }
 {
-    if (c >> k) % 2 == 1 { x } else { Lanes::splat(0) }
+    if (c >> k) % 2 == 1 {
+        x
+    } else {
+        Lanes::splat(0)
+    }
 }
 
 // The sums by the bits from k on, of those by the bits above k: one step of Horner's rule.
-fn stepped<const A: u8, const B: u8, const C: u8, const D: u8>(sum: Lanes, w: Lanes, x: Lanes, y: Lanes, z: Lanes, k: u32) -> Lanes
+fn stepped<const A: u8, const B: u8, const C: u8, const D: u8>(
+    sum: Lanes,
+    w: Lanes,
+    x: Lanes,
+    y: Lanes,
+    z: Lanes,
+    k: u32,
+) -> Lanes
     requires { ⌜ k < 8 ⌝ ∗ ⌜ sum ≡ map4 (partial (row A B C D) (7 - k)) w x y z ⌝ }
     ensures { λ r. ⌜ r ≡ map4 (partial (row A B C D) (8 - k)) w x y z ⌝ }
 {
@@ -67,7 +78,12 @@ fn stepped<const A: u8, const B: u8, const C: u8, const D: u8>(sum: Lanes, w: La
 
 // The sums of four elements, each times its coefficient. The coefficients are constants and the steps are written out, so that the compiler keeps
 // only the sums that are made: as a loop, some are compiled with a test of each bit, three times slower.
-pub fn blended<const A: u8, const B: u8, const C: u8, const D: u8>(w: Lanes, x: Lanes, y: Lanes, z: Lanes) -> Lanes
+pub fn blended<const A: u8, const B: u8, const C: u8, const D: u8>(
+    w: Lanes,
+    x: Lanes,
+    y: Lanes,
+    z: Lanes,
+) -> Lanes
     ensures { λ r. ⌜ r ≡ map4 (dot (row A B C D)) w x y z ⌝ }
 {
     let sum = stepped::<A, B, C, D>(Lanes::splat(0), w, x, y, z, 7);

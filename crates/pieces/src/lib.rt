@@ -8,11 +8,13 @@ ghost use mathlib.Core.Logic.{_≢_};
 ghost use mathlib.Core.Path.{_≡_};
 ghost use Rattle.field.specs.Stripe.{decoded, held, parityP, parityQ, rebuilt};
 ghost use Rattle.pieces.specs.Accepted.{allOf, rising};
+
 mod bytes;
 mod lanes;
 mod losses;
 mod parity;
 mod sums;
+
 use lanes::WIDTH;
 use losses::fill_lost;
 use parity::encode_bytes;
@@ -67,7 +69,13 @@ fn four_of_six(w: Held, x: Held, y: Held, z: Held) -> bool
     ensures { λ r. ⌜ r ≡ rising (w .entry .place) (x .entry .place) (y .entry .place) (z .entry .place) && allOf (length (now (w .entry .bytes))) (now (x .entry .bytes) ∷ now (y .entry .bytes) ∷ now (z .entry .bytes) ∷ []) ⌝ }
 {
     let n = w.bytes.len();
-    w.place < x.place && x.place < y.place && y.place < z.place && z.place < 6 && x.bytes.len() == n && y.bytes.len() == n && z.bytes.len() == n
+    w.place < x.place
+        && x.place < y.place
+        && y.place < z.place
+        && z.place < 6
+        && x.bytes.len() == n
+        && y.bytes.len() == n
+        && z.bytes.len() == n
 }
 
 // The piece at a place, made anew of any four: the one that encoding gave. Refused, and nothing is written, where the four are not of rising places,
@@ -77,14 +85,34 @@ pub fn rebuild(w: Held, x: Held, y: Held, z: Held, wanted: usize, out: &mut [u8]
     ensures piece { λ r. ⌜ now (out .exit) ≡ cond r (rebuilt (held (w .entry .place) (now (w .entry .bytes)) ∷ held (x .entry .place) (now (x .entry .bytes)) ∷ held (y .entry .place) (now (y .entry .bytes)) ∷ held (z .entry .place) (now (z .entry .bytes)) ∷ []) wanted) (now (out .entry)) ⌝ }
 {
     if four_of_six(w, x, y, z) && wanted < 6 && out.len() == w.bytes.len() {
-        piece([w.place, x.place, y.place, z.place], w.bytes, x.bytes, y.bytes, z.bytes, wanted, out);
+        piece(
+            [w.place, x.place, y.place, z.place],
+            w.bytes,
+            x.bytes,
+            y.bytes,
+            z.bytes,
+            wanted,
+            out,
+        );
         return true;
     }
     false
 }
 
 // The data where two pieces of it are lost: the second of these by its coefficients, and the first as the sum of all but Q.
-fn two_lost(places: [usize; 4], w: &[u8], x: &[u8], y: &[u8], z: &[u8], k: &mut [u8], l: &mut [u8], first: usize, one: &mut [u8], second: usize, two: &mut [u8])
+fn two_lost(
+    places: [usize; 4],
+    w: &[u8],
+    x: &[u8],
+    y: &[u8],
+    z: &[u8],
+    k: &mut [u8],
+    l: &mut [u8],
+    first: usize,
+    one: &mut [u8],
+    second: usize,
+    two: &mut [u8],
+)
     requires { ⌜ getD places 0 0 < getD places 1 0 ⌝ ∗ ⌜ getD places 1 0 < getD places 2 0 ⌝ ∗ ⌜ getD places 2 0 < getD places 3 0 ⌝ ∗ ⌜ getD places 3 0 < 6 ⌝ }
     requires { ⌜ length (now x) ≡ length (now w) ⌝ ∗ ⌜ length (now y) ≡ length (now w) ⌝ ∗ ⌜ length (now z) ≡ length (now w) ⌝ }
     requires { ⌜ length (now k) ≡ length (now w) ⌝ ∗ ⌜ length (now l) ≡ length (now w) ⌝ ∗ ⌜ length (now one) ≡ length (now w) ⌝ ∗ ⌜ length (now two) ≡ length (now w) ⌝ }
@@ -102,7 +130,17 @@ fn two_lost(places: [usize; 4], w: &[u8], x: &[u8], y: &[u8], z: &[u8], k: &mut 
 }
 
 // The four data pieces, of four pieces at rising places.
-fn data_pieces(places: [usize; 4], w: &[u8], x: &[u8], y: &[u8], z: &[u8], a: &mut [u8], b: &mut [u8], c: &mut [u8], d: &mut [u8])
+fn data_pieces(
+    places: [usize; 4],
+    w: &[u8],
+    x: &[u8],
+    y: &[u8],
+    z: &[u8],
+    a: &mut [u8],
+    b: &mut [u8],
+    c: &mut [u8],
+    d: &mut [u8],
+)
     requires { ⌜ getD places 0 0 < getD places 1 0 ⌝ ∗ ⌜ getD places 1 0 < getD places 2 0 ⌝ ∗ ⌜ getD places 2 0 < getD places 3 0 ⌝ ∗ ⌜ getD places 3 0 < 6 ⌝ }
     requires { ⌜ length (now x) ≡ length (now w) ⌝ ∗ ⌜ length (now y) ≡ length (now w) ⌝ ∗ ⌜ length (now z) ≡ length (now w) ⌝ }
     requires { ⌜ length (now a) ≡ length (now w) ⌝ ∗ ⌜ length (now b) ≡ length (now w) ⌝ ∗ ⌜ length (now c) ≡ length (now w) ⌝ ∗ ⌜ length (now d) ≡ length (now w) ⌝ }
@@ -126,13 +164,32 @@ fn data_pieces(places: [usize; 4], w: &[u8], x: &[u8], y: &[u8], z: &[u8], a: &m
 }
 
 // The four data pieces of any four pieces. Refused, and nothing is written, where the four are not of rising places or lengths differ.
-pub fn decode(w: Held, x: Held, y: Held, z: Held, a: &mut [u8], b: &mut [u8], c: &mut [u8], d: &mut [u8]) -> bool
+pub fn decode(
+    w: Held,
+    x: Held,
+    y: Held,
+    z: Held,
+    a: &mut [u8],
+    b: &mut [u8],
+    c: &mut [u8],
+    d: &mut [u8],
+) -> bool
     ensures answer { λ r. ⌜ r ≡ (rising (w .entry .place) (x .entry .place) (y .entry .place) (z .entry .place) && allOf (length (now (w .entry .bytes))) (now (x .entry .bytes) ∷ now (y .entry .bytes) ∷ now (z .entry .bytes) ∷ [])) && allOf (length (now (w .entry .bytes))) (now (a .entry) ∷ now (b .entry) ∷ now (c .entry) ∷ now (d .entry) ∷ []) ⌝ }
     ensures content { λ r. ⌜ now (a .exit) ∷ now (b .exit) ∷ now (c .exit) ∷ now (d .exit) ∷ [] ≡ cond r (decoded (held (w .entry .place) (now (w .entry .bytes)) ∷ held (x .entry .place) (now (x .entry .bytes)) ∷ held (y .entry .place) (now (y .entry .bytes)) ∷ held (z .entry .place) (now (z .entry .bytes)) ∷ [])) (now (a .entry) ∷ now (b .entry) ∷ now (c .entry) ∷ now (d .entry) ∷ []) ⌝ }
 {
     let n = w.bytes.len();
     if four_of_six(w, x, y, z) && a.len() == n && b.len() == n && c.len() == n && d.len() == n {
-        data_pieces([w.place, x.place, y.place, z.place], w.bytes, x.bytes, y.bytes, z.bytes, a, b, c, d);
+        data_pieces(
+            [w.place, x.place, y.place, z.place],
+            w.bytes,
+            x.bytes,
+            y.bytes,
+            z.bytes,
+            a,
+            b,
+            c,
+            d,
+        );
         return true;
     }
     false

@@ -82,7 +82,15 @@ fn lost_data(wanted: usize, other: usize, w: &[u8], x: &[u8], y: &[u8], z: &[u8]
 }
 
 // The piece at a place, where it and another are lost, of the other four.
-pub fn fill_lost(wanted: usize, other: usize, w: &[u8], x: &[u8], y: &[u8], z: &[u8], out: &mut [u8])
+pub fn fill_lost(
+    wanted: usize,
+    other: usize,
+    w: &[u8],
+    x: &[u8],
+    y: &[u8],
+    z: &[u8],
+    out: &mut [u8],
+)
     requires { ⌜ length (now x) ≡ length (now w) ⌝ ∗ ⌜ length (now y) ≡ length (now w) ⌝ ∗ ⌜ length (now z) ≡ length (now w) ⌝ ∗ ⌜ length (now out) ≡ length (now w) ⌝ }
     requires { ⌜ wanted < 6 ⌝ ∗ ⌜ other < 6 ⌝ ∗ ⌜ wanted ≢ other ⌝ }
     ensures { λ _. ⌜ now (out .exit) ≡ map4 (dot (lostRow wanted other)) (now (w .entry)) (now (x .entry)) (now (y .entry)) (now (z .entry)) ⌝ }

@@ -10,7 +10,13 @@ use crate::lanes::load;
 use crate::lanes::store;
 
 // The sums of as many whole vectors as there are.
-fn blend_vectors<const A: u8, const B: u8, const C: u8, const D: u8>(w: &[u8], x: &[u8], y: &[u8], z: &[u8], out: &mut [u8])
+fn blend_vectors<const A: u8, const B: u8, const C: u8, const D: u8>(
+    w: &[u8],
+    x: &[u8],
+    y: &[u8],
+    z: &[u8],
+    out: &mut [u8],
+)
     requires { ⌜ length (now x) ≡ length (now w) ⌝ ∗ ⌜ length (now y) ≡ length (now w) ⌝ ∗ ⌜ length (now z) ≡ length (now w) ⌝ ∗ ⌜ length (now out) ≡ length (now w) ⌝ }
     ensures { λ _. ⌜ take (length (now (w .entry)) / 32 * 32) (now (out .exit)) ≡ take (length (now (w .entry)) / 32 * 32) (map4 (dot (row A B C D)) (now (w .entry)) (now (x .entry)) (now (y .entry)) (now (z .entry))) ⌝ }
 {
@@ -25,7 +31,14 @@ fn blend_vectors<const A: u8, const B: u8, const C: u8, const D: u8>(w: &[u8], x
 }
 
 // The sums from a place on, where those before it stand.
-fn blend_bytes<const A: u8, const B: u8, const C: u8, const D: u8>(w: &[u8], x: &[u8], y: &[u8], z: &[u8], out: &mut [u8], from: usize)
+fn blend_bytes<const A: u8, const B: u8, const C: u8, const D: u8>(
+    w: &[u8],
+    x: &[u8],
+    y: &[u8],
+    z: &[u8],
+    out: &mut [u8],
+    from: usize,
+)
     requires { ⌜ length (now x) ≡ length (now w) ⌝ ∗ ⌜ length (now y) ≡ length (now w) ⌝ ∗ ⌜ length (now z) ≡ length (now w) ⌝ ∗ ⌜ length (now out) ≡ length (now w) ⌝ }
     requires { ⌜ from ≤ length (now w) ⌝ }
     requires { ⌜ take from (now out) ≡ take from (map4 (dot (row A B C D)) (now w) (now x) (now y) (now z)) ⌝ }
@@ -37,7 +50,13 @@ fn blend_bytes<const A: u8, const B: u8, const C: u8, const D: u8>(w: &[u8], x: 
 }
 
 // The piece that four pieces give by constant coefficients.
-pub fn blend<const A: u8, const B: u8, const C: u8, const D: u8>(w: &[u8], x: &[u8], y: &[u8], z: &[u8], out: &mut [u8])
+pub fn blend<const A: u8, const B: u8, const C: u8, const D: u8>(
+    w: &[u8],
+    x: &[u8],
+    y: &[u8],
+    z: &[u8],
+    out: &mut [u8],
+)
     requires { ⌜ length (now x) ≡ length (now w) ⌝ ∗ ⌜ length (now y) ≡ length (now w) ⌝ ∗ ⌜ length (now z) ≡ length (now w) ⌝ ∗ ⌜ length (now out) ≡ length (now w) ⌝ }
     ensures { λ _. ⌜ now (out .exit) ≡ map4 (dot (row A B C D)) (now (w .entry)) (now (x .entry)) (now (y .entry)) (now (z .entry)) ⌝ }
 {

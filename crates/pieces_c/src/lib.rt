@@ -9,7 +9,14 @@ ghost use Rattle.pieces.specs.Accepted.{allOf, rising};
 use pieces::Held;
 
 #[unsafe(no_mangle)]
-pub extern "C" fn pieces_encode(a: &[u8], b: &[u8], c: &[u8], d: &[u8], p: &mut [u8], q: &mut [u8]) -> bool
+pub extern "C" fn pieces_encode(
+    a: &[u8],
+    b: &[u8],
+    c: &[u8],
+    d: &[u8],
+    p: &mut [u8],
+    q: &mut [u8],
+) -> bool
     ensures answer { λ r. ⌜ r ≡ allOf (length (now (a .entry))) (now (b .entry) ∷ now (c .entry) ∷ now (d .entry) ∷ now (p .entry) ∷ now (q .entry) ∷ []) ⌝ }
     ensures p { λ r. ⌜ now (p .exit) ≡ cond r (parityP (now (a .entry)) (now (b .entry)) (now (c .entry)) (now (d .entry))) (now (p .entry)) ⌝ }
     ensures q { λ r. ⌜ now (q .exit) ≡ cond r (parityQ (now (a .entry)) (now (b .entry)) (now (c .entry)) (now (d .entry))) (now (q .entry)) ⌝ }
@@ -18,15 +25,57 @@ pub extern "C" fn pieces_encode(a: &[u8], b: &[u8], c: &[u8], d: &[u8], p: &mut 
 }
 
 #[unsafe(no_mangle)]
-pub extern "C" fn pieces_rebuild(p: usize, w: &[u8], q: usize, x: &[u8], r: usize, y: &[u8], s: usize, z: &[u8], wanted: usize, out: &mut [u8]) -> bool
-    ensures { λ ok. ⌜ now (out .exit) ≡ cond ok (rebuilt (held p (now (w .entry)) ∷ held q (now (x .entry)) ∷ held r (now (y .entry)) ∷ held s (now (z .entry)) ∷ []) wanted) (now (out .entry)) ⌝ }
+pub extern "C" fn pieces_rebuild(
+    p: usize,
+    w: &[u8],
+    q: usize,
+    x: &[u8],
+    r: usize,
+    y: &[u8],
+    s: usize,
+    z: &[u8],
+    wanted: usize,
+    out: &mut [u8],
+) -> bool
+    ensures answer { λ ok. ⌜ ok ≡ (rising p q r s && allOf (length (now (w .entry))) (now (x .entry) ∷ now (y .entry) ∷ now (z .entry) ∷ [])) && (ltb wanted 6 && allOf (length (now (w .entry))) (now (out .entry) ∷ [])) ⌝ }
+    ensures piece { λ ok. ⌜ now (out .exit) ≡ cond ok (rebuilt (held p (now (w .entry)) ∷ held q (now (x .entry)) ∷ held r (now (y .entry)) ∷ held s (now (z .entry)) ∷ []) wanted) (now (out .entry)) ⌝ }
 {
-    pieces::rebuild(Held { place: p, bytes: w }, Held { place: q, bytes: x }, Held { place: r, bytes: y }, Held { place: s, bytes: z }, wanted, out)
+    pieces::rebuild(
+        Held { place: p, bytes: w },
+        Held { place: q, bytes: x },
+        Held { place: r, bytes: y },
+        Held { place: s, bytes: z },
+        wanted,
+        out,
+    )
 }
 
 #[unsafe(no_mangle)]
-pub extern "C" fn pieces_decode(p: usize, w: &[u8], q: usize, x: &[u8], r: usize, y: &[u8], s: usize, z: &[u8], a: &mut [u8], b: &mut [u8], c: &mut [u8], d: &mut [u8]) -> bool
-    ensures { λ ok. ⌜ now (a .exit) ∷ now (b .exit) ∷ now (c .exit) ∷ now (d .exit) ∷ [] ≡ cond ok (decoded (held p (now (w .entry)) ∷ held q (now (x .entry)) ∷ held r (now (y .entry)) ∷ held s (now (z .entry)) ∷ [])) (now (a .entry) ∷ now (b .entry) ∷ now (c .entry) ∷ now (d .entry) ∷ []) ⌝ }
+pub extern "C" fn pieces_decode(
+    p: usize,
+    w: &[u8],
+    q: usize,
+    x: &[u8],
+    r: usize,
+    y: &[u8],
+    s: usize,
+    z: &[u8],
+    a: &mut [u8],
+    b: &mut [u8],
+    c: &mut [u8],
+    d: &mut [u8],
+) -> bool
+    ensures answer { λ ok. ⌜ ok ≡ (rising p q r s && allOf (length (now (w .entry))) (now (x .entry) ∷ now (y .entry) ∷ now (z .entry) ∷ [])) && allOf (length (now (w .entry))) (now (a .entry) ∷ now (b .entry) ∷ now (c .entry) ∷ now (d .entry) ∷ []) ⌝ }
+    ensures content { λ ok. ⌜ now (a .exit) ∷ now (b .exit) ∷ now (c .exit) ∷ now (d .exit) ∷ [] ≡ cond ok (decoded (held p (now (w .entry)) ∷ held q (now (x .entry)) ∷ held r (now (y .entry)) ∷ held s (now (z .entry)) ∷ [])) (now (a .entry) ∷ now (b .entry) ∷ now (c .entry) ∷ now (d .entry) ∷ []) ⌝ }
 {
-    pieces::decode(Held { place: p, bytes: w }, Held { place: q, bytes: x }, Held { place: r, bytes: y }, Held { place: s, bytes: z }, a, b, c, d)
+    pieces::decode(
+        Held { place: p, bytes: w },
+        Held { place: q, bytes: x },
+        Held { place: r, bytes: y },
+        Held { place: s, bytes: z },
+        a,
+        b,
+        c,
+        d,
+    )
 }

@@ -22,6 +22,7 @@ loop-i-again c =
     let s = c .summed .ensures in
     let t = c .weighted .ensures in
     let p : c .summed .result ≡ map4 (dot (generator 4)) (chunk at 32 a) (chunk at 32 b) (chunk at 32 c') (chunk at 32 d) = cc in
-    let q : c .weighted .result ≡ map4 (dot (generator 5)) (chunk at 32 a) (chunk at 32 b) (chunk at 32 c') (chunk at 32 d) = cc in
-    (lanes-more (dot (generator 4)) a b c' d at _ (c .loop-i .p) (c .store .last .out) (c .summed .result) m (c .loop-i .inv .0) p (c .store .ensures),
-     lanes-more (dot (generator 5)) a b c' d at _ (c .loop-i .q) (c .store-in-loop-i .last .out) (c .weighted .result) m (c .loop-i .inv .1) q (c .store-in-loop-i .ensures))
+    let q : c .weighted .result ≡ map4 (dot (generator 5)) (chunk at 32 a) (chunk at 32 b) (chunk at 32 c') (chunk at 32 d) = cc in (
+      lanes-more (dot (generator 4)) a b c' d at _ (c .loop-i .p) (c .store .last .out) (c .summed .result) m (c .loop-i .inv .0) p (c .store .ensures),
+      lanes-more (dot (generator 5)) a b c' d at _ (c .loop-i .q) (c .store-in-loop-i .last .out) (c .weighted .result) m (c .loop-i .inv .1) q (c .store-in-loop-i .ensures),
+    )
