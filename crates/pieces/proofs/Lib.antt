@@ -1,6 +1,2 @@
-pub mod Words
-pub mod Steps
-pub mod Table
-pub mod Blends
 pub mod LostRows
 pub mod Pieces

@@ -1,46 +1,26 @@
 // Stripes of six pieces: two parity pieces worked out of four data pieces, and any piece made anew of any four.
-ghost use Prim.Native.Nat.{ℕ, _+_, _*_, _/_, _<_, _≤_};
+ghost use Prim.Native.Nat.{_+_, _*_, _<_, _≤_};
 ghost use lib.Dec.{ltb};
 ghost use lib.ListN.{getD, length};
 ghost use mathlib.Core.Bool.{cond, _&&_};
 ghost use mathlib.Core.List.{[], _∷_};
 ghost use mathlib.Core.Logic.{_≢_};
 ghost use mathlib.Core.Path.{_≡_};
-ghost use Rattle.field.specs.Stripe.{decoded, held, parityP, parityQ, rebuilt};
-ghost use Rattle.pieces.specs.Accepted.{allOf, rising};
+ghost use Rattle.elements.specs.Accepted.{allOf, rising};
+ghost use Rattle.field.specs.Stripe.{decoded, held, rebuilt};
 
-mod bytes;
-mod lanes;
 mod losses;
-mod parity;
-mod sums;
 
-use lanes::WIDTH;
+pub use elements::encode;
+
+use elements::blend;
 use losses::fill_lost;
-use parity::encode_bytes;
-use parity::encode_vectors;
-use sums::blend;
 
 // A piece that is at hand, and its place in the stripe: 0 to 3 for data, 4 for P, 5 for Q.
 #[derive(Clone, Copy)]
 pub struct Held<'a> {
     pub place: usize,
     pub bytes: &'a [u8],
-}
-
-// The two parity pieces of four data pieces. Pieces that are not all as long as the first are refused, and nothing is written.
-pub fn encode(a: &[u8], b: &[u8], c: &[u8], d: &[u8], p: &mut [u8], q: &mut [u8]) -> bool
-    ensures answer { λ r. ⌜ r ≡ allOf (length (now (a .entry))) (now (b .entry) ∷ now (c .entry) ∷ now (d .entry) ∷ now (p .entry) ∷ now (q .entry) ∷ []) ⌝ }
-    ensures p { λ r. ⌜ now (p .exit) ≡ cond r (parityP (now (a .entry)) (now (b .entry)) (now (c .entry)) (now (d .entry))) (now (p .entry)) ⌝ }
-    ensures q { λ r. ⌜ now (q .exit) ≡ cond r (parityQ (now (a .entry)) (now (b .entry)) (now (c .entry)) (now (d .entry))) (now (q .entry)) ⌝ }
-{
-    let n = a.len();
-    if b.len() == n && c.len() == n && d.len() == n && p.len() == n && q.len() == n {
-        encode_vectors(a, b, c, d, p, q);
-        encode_bytes(a, b, c, d, p, q, n / WIDTH * WIDTH);
-        return true;
-    }
-    false
 }
 
 // The piece at a place, of four at rising places.

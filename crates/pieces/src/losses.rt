@@ -5,7 +5,7 @@ ghost use mathlib.Core.Logic.{_≢_};
 ghost use mathlib.Core.Path.{_≡_};
 ghost use Rattle.field.specs.Field.{dot, map4};
 ghost use Rattle.field.specs.Stripe.{lostRow};
-use crate::sums::blend;
+use elements::blend;
 
 // Q, where it and another piece are lost.
 fn lost_q(other: usize, w: &[u8], x: &[u8], y: &[u8], z: &[u8], out: &mut [u8])

@@ -5,7 +5,7 @@ ghost use mathlib.Core.Bool.{cond, _&&_};
 ghost use mathlib.Core.List.{[], _∷_};
 ghost use mathlib.Core.Path.{_≡_};
 ghost use Rattle.field.specs.Stripe.{decoded, held, parityP, parityQ, rebuilt};
-ghost use Rattle.pieces.specs.Accepted.{allOf, rising};
+ghost use Rattle.elements.specs.Accepted.{allOf, rising};
 use pieces::Held;
 
 #[unsafe(no_mangle)]
