@@ -57,6 +57,24 @@ fn plain_decode(y: &[u8], z: &[u8], p: &[u8], q: &[u8], a: &mut [u8], b: &mut [u
     }
 }
 
+// Four pieces, each times its coefficient, by Horner's rule over the bits of the coefficients.
+#[inline(never)]
+fn plain_rebuild<const A: u8, const B: u8, const C: u8, const D: u8>(w: &[u8], x: &[u8], y: &[u8], z: &[u8], out: &mut [u8]) {
+    let n = w.len();
+    let (x, y, z, out) = (&x[..n], &y[..n], &z[..n], &mut out[..n]);
+    let mut i = 0;
+    while i + 8 <= n {
+        let (w, x, y, z) = (word(w, i), word(x, i), word(y, i), word(z, i));
+        let mut sum = 0;
+        for k in (0..8).rev() {
+            let bit = |c: u8, v: u64| if c >> k & 1 == 1 { v } else { 0 };
+            sum = doubled(sum) ^ bit(A, w) ^ bit(B, x) ^ bit(C, y) ^ bit(D, z);
+        }
+        out[i..i + 8].copy_from_slice(&sum.to_le_bytes());
+        i += 8;
+    }
+}
+
 // The best rate of `work` over the rounds so far.
 fn best(rate: &mut f64, data: usize, turns: usize, mut work: impl FnMut()) {
     // ISA-L leaves the upper halves of the vector registers in use, which slows down what comes after it to a third.
@@ -128,6 +146,10 @@ fn main() {
             best(&mut r[2][0], 4 * n, turns, || unsafe {
                 black_box(pieces_rebuild(2, h[0], n, 3, h[1], n, 4, h[2], n, 5, h[3], n, 0, dst[0], n));
             });
+            best(&mut r[2][1], 4 * n, turns, || unsafe {
+                let s = |k: usize| std::slice::from_raw_parts(black_box(h[k]), n);
+                plain_rebuild::<2, 6, 245, 244>(s(0), s(1), s(2), s(3), std::slice::from_raw_parts_mut(dst[0], n));
+            });
             best(&mut r[2][2], 4 * n, turns, || unsafe {
                 ec_encode_data(n as i32, 4, 1, rebuild_t.as_mut_ptr(), black_box(h.as_ptr() as *mut _), dst.as_ptr() as *mut _);
             });
@@ -137,6 +159,10 @@ fn main() {
                 black_box(pieces_rebuild(0, h[0], n, 1, h[1], n, 3, h[2], n, 4, h[3], n, 2, dst[0], n));
             });
             let mut sum_t = tables(vec![1, 1, 1, 1]);
+            best(&mut r[3][1], 4 * n, turns, || unsafe {
+                let s = |k: usize| std::slice::from_raw_parts(black_box(h[k]), n);
+                plain_rebuild::<1, 1, 1, 1>(s(0), s(1), s(2), s(3), std::slice::from_raw_parts_mut(dst[0], n));
+            });
             best(&mut r[3][2], 4 * n, turns, || unsafe {
                 ec_encode_data(n as i32, 4, 1, sum_t.as_mut_ptr(), black_box(h.as_ptr() as *mut _), dst.as_ptr() as *mut _);
             });
@@ -145,15 +171,18 @@ fn main() {
             best(&mut r[4][0], 4 * n, turns, || unsafe {
                 black_box(pieces_rebuild(0, h[0], n, 1, h[1], n, 3, h[2], n, 5, h[3], n, 2, dst[0], n));
             });
+            best(&mut r[4][1], 4 * n, turns, || unsafe {
+                let s = |k: usize| std::slice::from_raw_parts(black_box(h[k]), n);
+                plain_rebuild::<71, 142, 2, 71>(s(0), s(1), s(2), s(3), std::slice::from_raw_parts_mut(dst[0], n));
+            });
             best(&mut r[4][2], 4 * n, turns, || unsafe {
                 ec_encode_data(n as i32, 4, 1, from_q_t.as_mut_ptr(), black_box(h.as_ptr() as *mut _), dst.as_ptr() as *mut _);
             });
         }
         let names = ["encode", "decode, data 0 and 1 lost", "rebuild data 0, 1 lost too", "rebuild data 2 with P", "rebuild data 2 with Q"];
         for (k, name) in names.iter().enumerate() {
-            let plain = if r[k][1] > 0.0 { format!("{:.1}", r[k][1]) } else { "-".into() };
-            let of_plain = if r[k][1] > 0.0 { format!("{:.2}", r[k][0] / r[k][1]) } else { "-".into() };
-            println!("{n:>6} {name:<28} {:>8.1} {plain:>8} {:>8.1} {:>8.1} {of_plain:>10} {:>10.2}", r[k][0], r[k][2], r[k][3], r[k][0] / r[k][2]);
+            let [ours, plain, isal, copy] = r[k];
+            println!("{n:>6} {name:<28} {ours:>8.1} {plain:>8.1} {isal:>8.1} {copy:>8.1} {:>10.2} {:>10.2}", ours / plain, ours / isal);
         }
     }
 }

@@ -265,21 +265,21 @@ const DOUBLES: [u8; 256] = [
 ];
 
 // 2 times x.
-pub fn doubled_byte(x: u8) -> u8
+pub(crate) fn doubled_byte(x: u8) -> u8
     ensures { λ r. ⌜ r ≡ double x ⌝ }
 {
     DOUBLES[x as usize]
 }
 
 // An element of Q.
-pub fn weighted_byte(w: u8, x: u8, y: u8, z: u8) -> u8
+pub(crate) fn weighted_byte(w: u8, x: u8, y: u8, z: u8) -> u8
     ensures { λ r. ⌜ r ≡ dot (generator 5) w x y z ⌝ }
 {
     doubled_byte(doubled_byte(doubled_byte(z) ^ y) ^ x) ^ w
 }
 
 // c times x, by Horner's rule over the bits of c.
-pub fn product(c: u8, x: u8) -> u8
+pub(crate) fn product(c: u8, x: u8) -> u8
     ensures { λ r. ⌜ r ≡ times c x ⌝ }
 {
     let mut sum = 0u8;

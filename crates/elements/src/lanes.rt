@@ -9,12 +9,12 @@ ghost use Rattle.field.specs.Stripe.{parityP, parityQ};
 use std::simd::prelude::*;
 
 // As many field elements as are worked on at once.
-pub type Lanes = u8x32;
+pub(crate) type Lanes = u8x32;
 
-pub const WIDTH: usize = 32;
+pub(crate) const WIDTH: usize = 32;
 
 // 2 times each element: what stays below x^8, and the remainder of x^8 where there is one.
-pub fn doubled(x: Lanes) -> Lanes
+pub(crate) fn doubled(x: Lanes) -> Lanes
     ensures { λ r. ⌜ r ≡ map double x ⌝ }
 {
     let has_top = Lanes::splat(0) - (x >> Lanes::splat(7));
@@ -22,27 +22,27 @@ pub fn doubled(x: Lanes) -> Lanes
 }
 
 // The elements of P.
-pub fn summed(w: Lanes, x: Lanes, y: Lanes, z: Lanes) -> Lanes
+pub(crate) fn summed(w: Lanes, x: Lanes, y: Lanes, z: Lanes) -> Lanes
     ensures { λ r. ⌜ r ≡ parityP w x y z ⌝ }
 {
     w ^ x ^ y ^ z
 }
 
 // The elements of Q, by Horner's rule: three doublings and no product.
-pub fn weighted(w: Lanes, x: Lanes, y: Lanes, z: Lanes) -> Lanes
+pub(crate) fn weighted(w: Lanes, x: Lanes, y: Lanes, z: Lanes) -> Lanes
     ensures { λ r. ⌜ r ≡ parityQ w x y z ⌝ }
 {
     doubled(doubled(doubled(z) ^ y) ^ x) ^ w
 }
 
-pub fn load(s: &[u8], at: usize) -> Lanes
+pub(crate) fn load(s: &[u8], at: usize) -> Lanes
     requires { ⌜ at + 32 ≤ length (now s) ⌝ }
     ensures { λ r. ⌜ r ≡ chunk at 32 (now (s .entry)) ⌝ }
 {
     Lanes::from_slice(&s[at..at + WIDTH])
 }
 
-pub fn store(v: Lanes, out: &mut [u8], at: usize)
+pub(crate) fn store(v: Lanes, out: &mut [u8], at: usize)
     requires { ⌜ at + 32 ≤ length (now out) ⌝ }
     ensures { λ _. ⌜ take (at + 32) (now (out .exit)) ≡ take at (now (out .entry)) ++ v ⌝ }
 {
@@ -78,7 +78,7 @@ fn stepped<const A: u8, const B: u8, const C: u8, const D: u8>(
 
 // The sums of four elements, each times its coefficient. The coefficients are constants and the steps are written out, so that the compiler keeps
 // only the sums that are made: as a loop, some are compiled with a test of each bit, three times slower.
-pub fn blended<const A: u8, const B: u8, const C: u8, const D: u8>(
+pub(crate) fn blended<const A: u8, const B: u8, const C: u8, const D: u8>(
     w: Lanes,
     x: Lanes,
     y: Lanes,

@@ -12,11 +12,10 @@ mod lanes;
 mod parity;
 mod sums;
 
-pub use sums::blend;
-
 use lanes::WIDTH;
 use parity::encode_bytes;
 use parity::encode_vectors;
+pub use sums::blend;
 
 // The two parity pieces of four data pieces. Pieces that are not all as long as the first are refused, and nothing is written.
 pub fn encode(a: &[u8], b: &[u8], c: &[u8], d: &[u8], p: &mut [u8], q: &mut [u8]) -> bool

@@ -11,7 +11,7 @@ use crate::lanes::summed;
 use crate::lanes::weighted;
 
 // The parities of as many whole vectors as there are.
-pub fn encode_vectors(a: &[u8], b: &[u8], c: &[u8], d: &[u8], p: &mut [u8], q: &mut [u8])
+pub(crate) fn encode_vectors(a: &[u8], b: &[u8], c: &[u8], d: &[u8], p: &mut [u8], q: &mut [u8])
     requires { ⌜ length (now b) ≡ length (now a) ⌝ ∗ ⌜ length (now c) ≡ length (now a) ⌝ ∗ ⌜ length (now d) ≡ length (now a) ⌝ }
     requires { ⌜ length (now p) ≡ length (now a) ⌝ ∗ ⌜ length (now q) ≡ length (now a) ⌝ }
     ensures p { λ _. ⌜ take (length (now (a .entry)) / 32 * 32) (now (p .exit)) ≡ take (length (now (a .entry)) / 32 * 32) (parityP (now (a .entry)) (now (b .entry)) (now (c .entry)) (now (d .entry))) ⌝ }
@@ -29,7 +29,15 @@ pub fn encode_vectors(a: &[u8], b: &[u8], c: &[u8], d: &[u8], p: &mut [u8], q: &
 }
 
 // The parities from a place on, where those before it stand.
-pub fn encode_bytes(a: &[u8], b: &[u8], c: &[u8], d: &[u8], p: &mut [u8], q: &mut [u8], from: usize)
+pub(crate) fn encode_bytes(
+    a: &[u8],
+    b: &[u8],
+    c: &[u8],
+    d: &[u8],
+    p: &mut [u8],
+    q: &mut [u8],
+    from: usize,
+)
     requires { ⌜ length (now b) ≡ length (now a) ⌝ ∗ ⌜ length (now c) ≡ length (now a) ⌝ ∗ ⌜ length (now d) ≡ length (now a) ⌝ }
     requires { ⌜ length (now p) ≡ length (now a) ⌝ ∗ ⌜ length (now q) ≡ length (now a) ⌝ ∗ ⌜ from ≤ length (now a) ⌝ }
     requires p { ⌜ take from (now p) ≡ take from (parityP (now a) (now b) (now c) (now d)) ⌝ }

@@ -49,7 +49,7 @@ fn blend_bytes<const A: u8, const B: u8, const C: u8, const D: u8>(
     }
 }
 
-// The piece that four pieces give by constant coefficients.
+// The piece that four pieces give by constant coefficients. The caller has seen that all have one length: it tests once for many sums.
 pub fn blend<const A: u8, const B: u8, const C: u8, const D: u8>(
     w: &[u8],
     x: &[u8],

@@ -8,7 +8,7 @@ use mathlib.Core.Bool.{Bool, true, false, cond}
 use mathlib.Core.List.{List, [], _∷_}
 use lib.Dec.{eqb, ltb, T, lt→ltb, eqb→eq}
 use Rattle.field.specs.Field.{double, by, times, Row, row, dot, map4}
-use Rattle.field.specs.Stripe.{Rows, generator, inverse, keyOf, encoded, decoded, Held, held, pieceAt, rebuilt, rowBy, rowFor, keyBut, lostRow}
+use Rattle.field.specs.Stripe.{Rows, generator, inverse, keyOf, encoded, decoded, fourHeld, pieceAt, rebuilt, rowBy, rowFor, keyBut, lostRow}
 use Rattle.field.proofs.Bytes.{below, left, right, at, Lin, dot-lin, comp-lin, test1, test, agree, first-lin, second-lin, third-lin}
 use Rattle.field.proofs.Undone.{Is, rises, both}
 use Rattle.field.proofs.Pieces.{Good, comp, same, one, two, three, four, is-one, is-two, is-three, is-four}
@@ -118,12 +118,9 @@ lost-row p q r s t pq qr rs s6 t6 np nq nr ns =
     (at (lost p q r s) 6 all t t6) in
     ap (λ k. rowFor k t) (eqb→eq (keyOf p q r s) (keyBut t (15 - p - q - r - s - t)) here)
 
-abbrev pub heldFour : ℕ → ℕ → ℕ → ℕ → List ℕ → List ℕ → List ℕ → List ℕ → List Held
-heldFour p q r s x y z w = held p x ∷ held q y ∷ held r z ∷ held s w ∷ []
-
 module _ (p q r s : ℕ) (pq : p < q) (qr : q < r) (rs : r < s) (s6 : s < 6) (n : ℕ) (x y z w : List ℕ) (gx : Good n x) (gy : Good n y) (gz : Good n z) (gw : Good n w) where
   -- a piece as one sum
-  pub by-row : (t : ℕ) → t < 6 → rebuilt (heldFour p q r s x y z w) t ≡ map4 (dot (rowFor (keyOf p q r s) t)) x y z w
+  pub by-row : (t : ℕ) → t < 6 → rebuilt (fourHeld p q r s x y z w) t ≡ map4 (dot (rowFor (keyOf p q r s) t)) x y z w
   unfolding encoded decoded
   by-row zero h = refl
   by-row (suc zero) h = refl
@@ -138,16 +135,16 @@ module _ (p q r s : ℕ) (pq : p < q) (qr : q < r) (rs : r < s) (s6 : s < 6) (n 
   by-row (suc (suc (suc (suc (suc (suc t)))))) h = absurd (omega arith)
 
   -- a held piece is itself
-  pub first-held : rebuilt (heldFour p q r s x y z w) p ≡ x
+  pub first-held : rebuilt (fourHeld p q r s x y z w) p ≡ x
   first-held = by-row p (omega arith) ∙ ap (λ m. map4 (dot m) x y z w) (chosen-rows p q r s pq qr rs s6 .one) ∙ same _ _ is-one n x y z w gx gy gz gw ∙ one n x y z w gx
 
-  pub second-held : rebuilt (heldFour p q r s x y z w) q ≡ y
+  pub second-held : rebuilt (fourHeld p q r s x y z w) q ≡ y
   second-held = by-row q (omega arith) ∙ ap (λ m. map4 (dot m) x y z w) (chosen-rows p q r s pq qr rs s6 .two) ∙ same _ _ is-two n x y z w gx gy gz gw ∙ two n x y z w gx gy
 
-  pub third-held : rebuilt (heldFour p q r s x y z w) r ≡ z
+  pub third-held : rebuilt (fourHeld p q r s x y z w) r ≡ z
   third-held = by-row r (omega arith) ∙ ap (λ m. map4 (dot m) x y z w) (chosen-rows p q r s pq qr rs s6 .three) ∙ same _ _ is-three n x y z w gx gy gz gw ∙ three n x y z w gx gz
 
-  pub fourth-held : rebuilt (heldFour p q r s x y z w) s ≡ w
+  pub fourth-held : rebuilt (fourHeld p q r s x y z w) s ≡ w
   fourth-held = by-row s s6 ∙ ap (λ m. map4 (dot m) x y z w) (chosen-rows p q r s pq qr rs s6 .four) ∙ same _ _ is-four n x y z w gx gy gz gw ∙ four n x y z w gx gw
 
 -- Of two lost data pieces, where one is made anew the other is the sum of it, the two data pieces that are left, and P.

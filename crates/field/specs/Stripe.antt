@@ -71,6 +71,10 @@ Held = record { place : ℕ; bytes : List ℕ }
 abbrev pub held : ℕ → List ℕ → Held
 held p x = record { place = p; bytes = x }
 
+-- four held pieces
+abbrev pub fourHeld : ℕ → ℕ → ℕ → ℕ → List ℕ → List ℕ → List ℕ → List ℕ → List Held
+fourHeld p q r s x y z w = held p x ∷ held q y ∷ held r z ∷ held s w ∷ []
+
 abbrev pub inverted : Rows → List ℕ → List ℕ → List ℕ → List ℕ → List (List ℕ)
 inverted m x y z w = map4 (dot (m .w)) x y z w ∷ map4 (dot (m .x)) x y z w ∷ map4 (dot (m .y)) x y z w ∷ map4 (dot (m .z)) x y z w ∷ []
 

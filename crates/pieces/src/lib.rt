@@ -7,13 +7,12 @@ ghost use mathlib.Core.List.{[], _∷_};
 ghost use mathlib.Core.Logic.{_≢_};
 ghost use mathlib.Core.Path.{_≡_};
 ghost use Rattle.elements.specs.Accepted.{allOf, rising};
-ghost use Rattle.field.specs.Stripe.{decoded, held, rebuilt};
+ghost use Rattle.field.specs.Stripe.{decoded, fourHeld, rebuilt};
 
 mod losses;
 
-pub use elements::encode;
-
 use elements::blend;
+pub use elements::encode;
 use losses::fill_lost;
 
 // A piece that is at hand, and its place in the stripe: 0 to 3 for data, 4 for P, 5 for Q.
@@ -27,7 +26,7 @@ pub struct Held<'a> {
 fn piece(places: [usize; 4], w: &[u8], x: &[u8], y: &[u8], z: &[u8], wanted: usize, out: &mut [u8])
     requires { ⌜ getD places 0 0 < getD places 1 0 ⌝ ∗ ⌜ getD places 1 0 < getD places 2 0 ⌝ ∗ ⌜ getD places 2 0 < getD places 3 0 ⌝ ∗ ⌜ getD places 3 0 < 6 ⌝ ∗ ⌜ wanted < 6 ⌝ }
     requires { ⌜ length (now x) ≡ length (now w) ⌝ ∗ ⌜ length (now y) ≡ length (now w) ⌝ ∗ ⌜ length (now z) ≡ length (now w) ⌝ ∗ ⌜ length (now out) ≡ length (now w) ⌝ }
-    ensures { λ _. ⌜ now (out .exit) ≡ rebuilt (held (getD places 0 0) (now (w .entry)) ∷ held (getD places 1 0) (now (x .entry)) ∷ held (getD places 2 0) (now (y .entry)) ∷ held (getD places 3 0) (now (z .entry)) ∷ []) wanted ⌝ }
+    ensures { λ _. ⌜ now (out .exit) ≡ rebuilt (fourHeld (getD places 0 0) (getD places 1 0) (getD places 2 0) (getD places 3 0) (now (w .entry)) (now (x .entry)) (now (y .entry)) (now (z .entry))) wanted ⌝ }
 {
     let [p, q, r, s] = places;
     if wanted == p {
@@ -62,7 +61,7 @@ fn four_of_six(w: Held, x: Held, y: Held, z: Held) -> bool
 // there is no such place, or lengths differ.
 pub fn rebuild(w: Held, x: Held, y: Held, z: Held, wanted: usize, out: &mut [u8]) -> bool
     ensures answer { λ r. ⌜ r ≡ (rising (w .entry .place) (x .entry .place) (y .entry .place) (z .entry .place) && allOf (length (now (w .entry .bytes))) (now (x .entry .bytes) ∷ now (y .entry .bytes) ∷ now (z .entry .bytes) ∷ [])) && (ltb wanted 6 && allOf (length (now (w .entry .bytes))) (now (out .entry) ∷ [])) ⌝ }
-    ensures piece { λ r. ⌜ now (out .exit) ≡ cond r (rebuilt (held (w .entry .place) (now (w .entry .bytes)) ∷ held (x .entry .place) (now (x .entry .bytes)) ∷ held (y .entry .place) (now (y .entry .bytes)) ∷ held (z .entry .place) (now (z .entry .bytes)) ∷ []) wanted) (now (out .entry)) ⌝ }
+    ensures piece { λ r. ⌜ now (out .exit) ≡ cond r (rebuilt (fourHeld (w .entry .place) (x .entry .place) (y .entry .place) (z .entry .place) (now (w .entry .bytes)) (now (x .entry .bytes)) (now (y .entry .bytes)) (now (z .entry .bytes))) wanted) (now (out .entry)) ⌝ }
 {
     if four_of_six(w, x, y, z) && wanted < 6 && out.len() == w.bytes.len() {
         piece(
@@ -98,10 +97,10 @@ fn two_lost(
     requires { ⌜ length (now k) ≡ length (now w) ⌝ ∗ ⌜ length (now l) ≡ length (now w) ⌝ ∗ ⌜ length (now one) ≡ length (now w) ⌝ ∗ ⌜ length (now two) ≡ length (now w) ⌝ }
     requires { ⌜ getD places 2 0 ≡ 4 ⌝ ∗ ⌜ first < second ⌝ ∗ ⌜ second < 4 ⌝ }
     requires { ⌜ first ≢ getD places 0 0 ⌝ ∗ ⌜ first ≢ getD places 1 0 ⌝ ∗ ⌜ second ≢ getD places 0 0 ⌝ ∗ ⌜ second ≢ getD places 1 0 ⌝ }
-    ensures k { λ _. ⌜ now (k .exit) ≡ rebuilt (held (getD places 0 0) (now (w .entry)) ∷ held (getD places 1 0) (now (x .entry)) ∷ held (getD places 2 0) (now (y .entry)) ∷ held (getD places 3 0) (now (z .entry)) ∷ []) (getD places 0 0) ⌝ }
-    ensures l { λ _. ⌜ now (l .exit) ≡ rebuilt (held (getD places 0 0) (now (w .entry)) ∷ held (getD places 1 0) (now (x .entry)) ∷ held (getD places 2 0) (now (y .entry)) ∷ held (getD places 3 0) (now (z .entry)) ∷ []) (getD places 1 0) ⌝ }
-    ensures one { λ _. ⌜ now (one .exit) ≡ rebuilt (held (getD places 0 0) (now (w .entry)) ∷ held (getD places 1 0) (now (x .entry)) ∷ held (getD places 2 0) (now (y .entry)) ∷ held (getD places 3 0) (now (z .entry)) ∷ []) first ⌝ }
-    ensures two { λ _. ⌜ now (two .exit) ≡ rebuilt (held (getD places 0 0) (now (w .entry)) ∷ held (getD places 1 0) (now (x .entry)) ∷ held (getD places 2 0) (now (y .entry)) ∷ held (getD places 3 0) (now (z .entry)) ∷ []) second ⌝ }
+    ensures k { λ _. ⌜ now (k .exit) ≡ rebuilt (fourHeld (getD places 0 0) (getD places 1 0) (getD places 2 0) (getD places 3 0) (now (w .entry)) (now (x .entry)) (now (y .entry)) (now (z .entry))) (getD places 0 0) ⌝ }
+    ensures l { λ _. ⌜ now (l .exit) ≡ rebuilt (fourHeld (getD places 0 0) (getD places 1 0) (getD places 2 0) (getD places 3 0) (now (w .entry)) (now (x .entry)) (now (y .entry)) (now (z .entry))) (getD places 1 0) ⌝ }
+    ensures one { λ _. ⌜ now (one .exit) ≡ rebuilt (fourHeld (getD places 0 0) (getD places 1 0) (getD places 2 0) (getD places 3 0) (now (w .entry)) (now (x .entry)) (now (y .entry)) (now (z .entry))) first ⌝ }
+    ensures two { λ _. ⌜ now (two .exit) ≡ rebuilt (fourHeld (getD places 0 0) (getD places 1 0) (getD places 2 0) (getD places 3 0) (now (w .entry)) (now (x .entry)) (now (y .entry)) (now (z .entry))) second ⌝ }
 {
     k.copy_from_slice(w);
     l.copy_from_slice(x);
@@ -124,7 +123,7 @@ fn data_pieces(
     requires { ⌜ getD places 0 0 < getD places 1 0 ⌝ ∗ ⌜ getD places 1 0 < getD places 2 0 ⌝ ∗ ⌜ getD places 2 0 < getD places 3 0 ⌝ ∗ ⌜ getD places 3 0 < 6 ⌝ }
     requires { ⌜ length (now x) ≡ length (now w) ⌝ ∗ ⌜ length (now y) ≡ length (now w) ⌝ ∗ ⌜ length (now z) ≡ length (now w) ⌝ }
     requires { ⌜ length (now a) ≡ length (now w) ⌝ ∗ ⌜ length (now b) ≡ length (now w) ⌝ ∗ ⌜ length (now c) ≡ length (now w) ⌝ ∗ ⌜ length (now d) ≡ length (now w) ⌝ }
-    ensures { λ _. ⌜ now (a .exit) ∷ now (b .exit) ∷ now (c .exit) ∷ now (d .exit) ∷ [] ≡ decoded (held (getD places 0 0) (now (w .entry)) ∷ held (getD places 1 0) (now (x .entry)) ∷ held (getD places 2 0) (now (y .entry)) ∷ held (getD places 3 0) (now (z .entry)) ∷ []) ⌝ }
+    ensures { λ _. ⌜ now (a .exit) ∷ now (b .exit) ∷ now (c .exit) ∷ now (d .exit) ∷ [] ≡ decoded (fourHeld (getD places 0 0) (getD places 1 0) (getD places 2 0) (getD places 3 0) (now (w .entry)) (now (x .entry)) (now (y .entry)) (now (z .entry))) ⌝ }
 {
     if places[2] != 4 {
         piece(places, w, x, y, z, 0, a);
@@ -155,7 +154,7 @@ pub fn decode(
     d: &mut [u8],
 ) -> bool
     ensures answer { λ r. ⌜ r ≡ (rising (w .entry .place) (x .entry .place) (y .entry .place) (z .entry .place) && allOf (length (now (w .entry .bytes))) (now (x .entry .bytes) ∷ now (y .entry .bytes) ∷ now (z .entry .bytes) ∷ [])) && allOf (length (now (w .entry .bytes))) (now (a .entry) ∷ now (b .entry) ∷ now (c .entry) ∷ now (d .entry) ∷ []) ⌝ }
-    ensures content { λ r. ⌜ now (a .exit) ∷ now (b .exit) ∷ now (c .exit) ∷ now (d .exit) ∷ [] ≡ cond r (decoded (held (w .entry .place) (now (w .entry .bytes)) ∷ held (x .entry .place) (now (x .entry .bytes)) ∷ held (y .entry .place) (now (y .entry .bytes)) ∷ held (z .entry .place) (now (z .entry .bytes)) ∷ [])) (now (a .entry) ∷ now (b .entry) ∷ now (c .entry) ∷ now (d .entry) ∷ []) ⌝ }
+    ensures content { λ r. ⌜ now (a .exit) ∷ now (b .exit) ∷ now (c .exit) ∷ now (d .exit) ∷ [] ≡ cond r (decoded (fourHeld (w .entry .place) (x .entry .place) (y .entry .place) (z .entry .place) (now (w .entry .bytes)) (now (x .entry .bytes)) (now (y .entry .bytes)) (now (z .entry .bytes)))) (now (a .entry) ∷ now (b .entry) ∷ now (c .entry) ∷ now (d .entry) ∷ []) ⌝ }
 {
     let n = w.bytes.len();
     if four_of_six(w, x, y, z) && a.len() == n && b.len() == n && c.len() == n && d.len() == n {

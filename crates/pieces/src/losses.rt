@@ -82,7 +82,7 @@ fn lost_data(wanted: usize, other: usize, w: &[u8], x: &[u8], y: &[u8], z: &[u8]
 }
 
 // The piece at a place, where it and another are lost, of the other four.
-pub fn fill_lost(
+pub(crate) fn fill_lost(
     wanted: usize,
     other: usize,
     w: &[u8],

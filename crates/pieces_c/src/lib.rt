@@ -4,7 +4,7 @@ ghost use lib.ListN.{length};
 ghost use mathlib.Core.Bool.{cond, _&&_};
 ghost use mathlib.Core.List.{[], _∷_};
 ghost use mathlib.Core.Path.{_≡_};
-ghost use Rattle.field.specs.Stripe.{decoded, held, parityP, parityQ, rebuilt};
+ghost use Rattle.field.specs.Stripe.{decoded, fourHeld, parityP, parityQ, rebuilt};
 ghost use Rattle.elements.specs.Accepted.{allOf, rising};
 use pieces::Held;
 
@@ -38,7 +38,7 @@ pub extern "C" fn pieces_rebuild(
     out: &mut [u8],
 ) -> bool
     ensures answer { λ ok. ⌜ ok ≡ (rising p q r s && allOf (length (now (w .entry))) (now (x .entry) ∷ now (y .entry) ∷ now (z .entry) ∷ [])) && (ltb wanted 6 && allOf (length (now (w .entry))) (now (out .entry) ∷ [])) ⌝ }
-    ensures piece { λ ok. ⌜ now (out .exit) ≡ cond ok (rebuilt (held p (now (w .entry)) ∷ held q (now (x .entry)) ∷ held r (now (y .entry)) ∷ held s (now (z .entry)) ∷ []) wanted) (now (out .entry)) ⌝ }
+    ensures piece { λ ok. ⌜ now (out .exit) ≡ cond ok (rebuilt (fourHeld p q r s (now (w .entry)) (now (x .entry)) (now (y .entry)) (now (z .entry))) wanted) (now (out .entry)) ⌝ }
 {
     pieces::rebuild(
         Held { place: p, bytes: w },
@@ -66,7 +66,7 @@ pub extern "C" fn pieces_decode(
     d: &mut [u8],
 ) -> bool
     ensures answer { λ ok. ⌜ ok ≡ (rising p q r s && allOf (length (now (w .entry))) (now (x .entry) ∷ now (y .entry) ∷ now (z .entry) ∷ [])) && allOf (length (now (w .entry))) (now (a .entry) ∷ now (b .entry) ∷ now (c .entry) ∷ now (d .entry) ∷ []) ⌝ }
-    ensures content { λ ok. ⌜ now (a .exit) ∷ now (b .exit) ∷ now (c .exit) ∷ now (d .exit) ∷ [] ≡ cond ok (decoded (held p (now (w .entry)) ∷ held q (now (x .entry)) ∷ held r (now (y .entry)) ∷ held s (now (z .entry)) ∷ [])) (now (a .entry) ∷ now (b .entry) ∷ now (c .entry) ∷ now (d .entry) ∷ []) ⌝ }
+    ensures content { λ ok. ⌜ now (a .exit) ∷ now (b .exit) ∷ now (c .exit) ∷ now (d .exit) ∷ [] ≡ cond ok (decoded (fourHeld p q r s (now (w .entry)) (now (x .entry)) (now (y .entry)) (now (z .entry)))) (now (a .entry) ∷ now (b .entry) ∷ now (c .entry) ∷ now (d .entry) ∷ []) ⌝ }
 {
     pieces::decode(
         Held { place: p, bytes: w },

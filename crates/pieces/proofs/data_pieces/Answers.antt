@@ -3,8 +3,7 @@ use native.Mathlib.Omega.{arith}
 use mathlib.Core.Path.{_≡_, _∙_, ap}
 use mathlib.Core.List.{List}
 use lib.ListN.{getD}
-use Rattle.field.specs.Stripe.{Held, rebuilt}
-use Rattle.field.proofs.Rebuilt.{heldFour}
+use Rattle.field.specs.Stripe.{Held, fourHeld, rebuilt}
 use Rattle.pieces.proofs.Pieces.{all-data}
 use Rattle.pieces.proofs.data_pieces.Needs as need
 
@@ -18,7 +17,7 @@ returns-then-places-ne4 c =
 
 pub returns-in-1 : need.returns-in-1
 returns-in-1 c =
-    let hs = heldFour (getD (c .args .places) 0 0) (getD (c .args .places) 1 0) (getD (c .args .places) 2 0) (getD (c .args .places) 3 0) (c .args .w .now) (c .args .x .now) (c .args .y .now) (c .args .z .now) in
+    let hs = fourHeld (getD (c .args .places) 0 0) (getD (c .args .places) 1 0) (getD (c .args .places) 2 0) (getD (c .args .places) 3 0) (c .args .w .now) (c .args .x .now) (c .args .y .now) (c .args .z .now) in
     all-data (getD (c .args .places) 0 0) (getD (c .args .places) 1 0) (getD (c .args .places) 2 0) (getD (c .args .places) 3 0) (c .args .w .now) (c .args .x .now) (c .args .y .now) (c .args .z .now) _ _ _ _
     (there hs (getD (c .args .places) 0 0) 0 _ (c .two-lost .ensures .k) (omega arith))
     (there hs (getD (c .args .places) 1 0) 1 _ (c .two-lost .ensures .l) (omega arith))
@@ -27,7 +26,7 @@ returns-in-1 c =
 
 pub returns-in-2 : need.returns-in-2
 returns-in-2 c =
-    let hs = heldFour (getD (c .args .places) 0 0) (getD (c .args .places) 1 0) (getD (c .args .places) 2 0) (getD (c .args .places) 3 0) (c .args .w .now) (c .args .x .now) (c .args .y .now) (c .args .z .now) in
+    let hs = fourHeld (getD (c .args .places) 0 0) (getD (c .args .places) 1 0) (getD (c .args .places) 2 0) (getD (c .args .places) 3 0) (c .args .w .now) (c .args .x .now) (c .args .y .now) (c .args .z .now) in
     all-data (getD (c .args .places) 0 0) (getD (c .args .places) 1 0) (getD (c .args .places) 2 0) (getD (c .args .places) 3 0) (c .args .w .now) (c .args .x .now) (c .args .y .now) (c .args .z .now) _ _ _ _
     (there hs (getD (c .args .places) 0 0) 0 _ (c .two-lost-in-2 .ensures .k) (omega arith))
     (c .two-lost-in-2 .ensures .one)
@@ -36,7 +35,7 @@ returns-in-2 c =
 
 pub returns-in-3 : need.returns-in-3
 returns-in-3 c =
-    let hs = heldFour (getD (c .args .places) 0 0) (getD (c .args .places) 1 0) (getD (c .args .places) 2 0) (getD (c .args .places) 3 0) (c .args .w .now) (c .args .x .now) (c .args .y .now) (c .args .z .now) in
+    let hs = fourHeld (getD (c .args .places) 0 0) (getD (c .args .places) 1 0) (getD (c .args .places) 2 0) (getD (c .args .places) 3 0) (c .args .w .now) (c .args .x .now) (c .args .y .now) (c .args .z .now) in
     all-data (getD (c .args .places) 0 0) (getD (c .args .places) 1 0) (getD (c .args .places) 2 0) (getD (c .args .places) 3 0) (c .args .w .now) (c .args .x .now) (c .args .y .now) (c .args .z .now) _ _ _ _
     (there hs (getD (c .args .places) 0 0) 0 _ (c .two-lost-in-3 .ensures .k) (omega arith))
     (c .two-lost-in-3 .ensures .one)
@@ -45,7 +44,7 @@ returns-in-3 c =
 
 pub returns-in-6 : need.returns-in-6
 returns-in-6 c =
-    let hs = heldFour (getD (c .args .places) 0 0) (getD (c .args .places) 1 0) (getD (c .args .places) 2 0) (getD (c .args .places) 3 0) (c .args .w .now) (c .args .x .now) (c .args .y .now) (c .args .z .now) in
+    let hs = fourHeld (getD (c .args .places) 0 0) (getD (c .args .places) 1 0) (getD (c .args .places) 2 0) (getD (c .args .places) 3 0) (c .args .w .now) (c .args .x .now) (c .args .y .now) (c .args .z .now) in
     all-data (getD (c .args .places) 0 0) (getD (c .args .places) 1 0) (getD (c .args .places) 2 0) (getD (c .args .places) 3 0) (c .args .w .now) (c .args .x .now) (c .args .y .now) (c .args .z .now) _ _ _ _
     (c .two-lost-in-6 .ensures .one)
     (there hs (getD (c .args .places) 0 0) 1 _ (c .two-lost-in-6 .ensures .k) (omega arith))
@@ -54,7 +53,7 @@ returns-in-6 c =
 
 pub returns-in-7 : need.returns-in-7
 returns-in-7 c =
-    let hs = heldFour (getD (c .args .places) 0 0) (getD (c .args .places) 1 0) (getD (c .args .places) 2 0) (getD (c .args .places) 3 0) (c .args .w .now) (c .args .x .now) (c .args .y .now) (c .args .z .now) in
+    let hs = fourHeld (getD (c .args .places) 0 0) (getD (c .args .places) 1 0) (getD (c .args .places) 2 0) (getD (c .args .places) 3 0) (c .args .w .now) (c .args .x .now) (c .args .y .now) (c .args .z .now) in
     all-data (getD (c .args .places) 0 0) (getD (c .args .places) 1 0) (getD (c .args .places) 2 0) (getD (c .args .places) 3 0) (c .args .w .now) (c .args .x .now) (c .args .y .now) (c .args .z .now) _ _ _ _
     (c .two-lost-in-7 .ensures .one)
     (there hs (getD (c .args .places) 0 0) 1 _ (c .two-lost-in-7 .ensures .k) (omega arith))
@@ -63,7 +62,7 @@ returns-in-7 c =
 
 pub returns-in-rest : need.returns-in-rest
 returns-in-rest c =
-    let hs = heldFour (getD (c .args .places) 0 0) (getD (c .args .places) 1 0) (getD (c .args .places) 2 0) (getD (c .args .places) 3 0) (c .args .w .now) (c .args .x .now) (c .args .y .now) (c .args .z .now) in
+    let hs = fourHeld (getD (c .args .places) 0 0) (getD (c .args .places) 1 0) (getD (c .args .places) 2 0) (getD (c .args .places) 3 0) (c .args .w .now) (c .args .x .now) (c .args .y .now) (c .args .z .now) in
     all-data (getD (c .args .places) 0 0) (getD (c .args .places) 1 0) (getD (c .args .places) 2 0) (getD (c .args .places) 3 0) (c .args .w .now) (c .args .x .now) (c .args .y .now) (c .args .z .now) _ _ _ _
     (c .two-lost-in-rest .ensures .one)
     (c .two-lost-in-rest .ensures .two)
