@@ -35,6 +35,10 @@ wrote-as fs a b tag out r after is e h =
     (subst (λ (l : List ℕ). Wrote (fits b) (lineOf tag l) out r after) (is .body)
     (subst (λ (t : Bool). Wrote t (lineOf tag (bodyBytes fs)) out r after) (is .fit) h))
 
+-- a call that is of the kind is written where only that kind is
+pub as-kind : (p : Bool) (a : Call) (tag : ℕ) (out : List ℕ) (r : Option ℕ) (after : List ℕ) → p ≡ true → Wrote (fits a) (lineOf tag (callBytes (means a))) out r after → Wrote (p && fits a) (lineOf tag (callBytes (means a))) out r after
+as-kind p a tag out r after e h = subst (λ (t : Bool). Wrote (t && fits a) (lineOf tag (callBytes (means a))) out r after) (sym e) h
+
 pub make-room-is : (room : RefT (List ℕ)) (keeps : Bool) → Is (U8 1 ∷ Name room ∷ Flag keeps ∷ []) (MakeRoom room keeps)
 unfolding every many
 make-room-is room keeps = record { fit = refl; body = refl }

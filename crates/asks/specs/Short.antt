@@ -1,6 +1,6 @@
 -- Which calls of the code a line can hold.
 -- Assumes nothing.
-use mathlib.Core.Bool.{Bool, true, _&&_}
+use mathlib.Core.Bool.{Bool, true, false, _&&_}
 use mathlib.Core.List.{List, [], _∷_}
 use Prim.Native.Nat.{ℕ, _+_}
 use denote.Ref.{now}
@@ -48,3 +48,38 @@ sound (Time t) = true
 
 abbrev pub fits : Call → Bool
 fits c = (sound c && every isName (names c)) && ltb (4 + length (callBytes (means c))) 4294967296
+
+-- WHO WRITES WHICH
+
+-- what is said of its kind
+abbrev pub byKind : Call → (room change read upload time : Bool) → Bool
+byKind (MakeRoom n k) room change read upload time = room
+byKind (DropRoom n) room change read upload time = room
+byKind (Put n k x bs) room change read upload time = change
+byKind (Get n k num from most) room change read upload time = read
+byKind (Remove n k num) room change read upload time = change
+byKind (Look n p after most) room change read upload time = read
+byKind (Versions n k) room change read upload time = read
+byKind (Begin n k) room change read upload time = upload
+byKind (Part n u p bs) room change read upload time = upload
+byKind (Complete n u x) room change read upload time = upload
+byKind (Abort n u) room change read upload time = upload
+byKind (Hold n k num until) room change read upload time = change
+byKind (Rules n count rs) room change read upload time = room
+byKind (Time t) room change read upload time = time
+
+-- it makes, drops or rules a room
+abbrev pub ofRoom : Call → Bool
+ofRoom c = byKind c true false false false false
+
+-- it changes what a key has
+abbrev pub changes : Call → Bool
+changes c = byKind c false true false false false
+
+-- it asks what a room or a key has
+abbrev pub reads : Call → Bool
+reads c = byKind c false false true false false
+
+-- it is of an upload in parts
+abbrev pub uploads : Call → Bool
+uploads c = byKind c false false false true false

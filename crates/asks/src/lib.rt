@@ -1,7 +1,8 @@
 // Calls are written as lines, by whoever asks.
+ghost use mathlib.Core.Bool.{_&&_};
 ghost use mathlib.Core.List.{[], _∷_};
 ghost use mathlib.Core.Path.{_≡_};
-ghost use Rattle.asks.specs.Short.{fits};
+ghost use Rattle.asks.specs.Short.{changes, fits, ofRoom, reads, uploads};
 ghost use Rattle.fills.specs.Fills.{Wrote};
 ghost use Rattle.lines.specs.Calls.{callBytes, lineOf};
 ghost use Rattle.lines.specs.Means.{means};
@@ -25,32 +26,65 @@ fn time_fields(ms: u64) -> [Field<'static>; 2]
     [U8(14), U64(ms)]
 }
 
-// Writes the call to the front of `out` and says how long its line is, or leaves `out` alone: where there is
-// too little room, or no line can hold it.
-pub fn write_call(tag: u32, call: Call<'_>, out: &mut [u8]) -> Option<usize>
-    ensures { λ r. ⌜ Wrote (fits (call .entry)) (lineOf tag (callBytes (means (call .entry)))) (now (out .entry)) r (now (out .exit)) ⌝ }
+// Writes a call that makes, drops or rules a room, and leaves `out` alone at any other.
+fn write_room(tag: u32, call: Call<'_>, out: &mut [u8]) -> Option<usize>
+    ensures { λ r. ⌜ Wrote (ofRoom (call .entry) && fits (call .entry)) (lineOf tag (callBytes (means (call .entry)))) (now (out .entry)) r (now (out .exit)) ⌝ }
 {
     match call {
         Call::MakeRoom { name, keeps } => write_line(tag, &[U8(1), Name(name), Flag(keeps)], out),
         Call::DropRoom { name } => write_line(tag, &[U8(2), Name(name)], out),
+        Call::Rules { room, count, rules } => {
+            if !are_rules(count, rules) {
+                return None;
+            }
+            write_line(tag, &[U8(13), Name(room), U8(count), Plain(rules)], out)
+        }
+        _ => None,
+    }
+}
+
+// Writes a call that changes what a key has, and leaves `out` alone at any other.
+fn write_change(tag: u32, call: Call<'_>, out: &mut [u8]) -> Option<usize>
+    ensures { λ r. ⌜ Wrote (changes (call .entry) && fits (call .entry)) (lineOf tag (callBytes (means (call .entry)))) (now (out .entry)) r (now (out .exit)) ⌝ }
+{
+    match call {
         Call::Put {
             room,
             key,
             expected,
             bytes,
         } => {
-            write_line(
-                tag,
-                &[
-                    U8(3),
-                    Name(room),
-                    Name(key),
-                    Expects(expected),
-                    Content(bytes),
-                ],
-                out,
-            )
+            let fields = [
+                U8(3),
+                Name(room),
+                Name(key),
+                Expects(expected),
+                Content(bytes),
+            ];
+            write_line(tag, &fields, out)
         }
+        Call::Remove { room, key, number } => {
+            let fields = [U8(5), Name(room), Name(key), U64(number)];
+            write_line(tag, &fields, out)
+        }
+        Call::Hold {
+            room,
+            key,
+            number,
+            until,
+        } => {
+            let fields = [U8(12), Name(room), Name(key), U64(number), U64(until)];
+            write_line(tag, &fields, out)
+        }
+        _ => None,
+    }
+}
+
+// Writes a call that asks what a room or a key has, and leaves `out` alone at any other.
+fn write_read(tag: u32, call: Call<'_>, out: &mut [u8]) -> Option<usize>
+    ensures { λ r. ⌜ Wrote (reads (call .entry) && fits (call .entry)) (lineOf tag (callBytes (means (call .entry)))) (now (out .entry)) r (now (out .exit)) ⌝ }
+{
+    match call {
         Call::Get {
             room,
             key,
@@ -58,37 +92,35 @@ pub fn write_call(tag: u32, call: Call<'_>, out: &mut [u8]) -> Option<usize>
             from,
             most,
         } => {
-            write_line(
-                tag,
-                &[
-                    U8(4),
-                    Name(room),
-                    Name(key),
-                    U64(number),
-                    U64(from),
-                    U32(most),
-                ],
-                out,
-            )
+            let fields = [
+                U8(4),
+                Name(room),
+                Name(key),
+                U64(number),
+                U64(from),
+                U32(most),
+            ];
+            write_line(tag, &fields, out)
         }
-        Call::Remove { room, key, number } => write_line(
-            tag,
-            &[U8(5), Name(room), Name(key), U64(number)],
-            out,
-        ),
         Call::Look {
             room,
             beginning,
             after,
             most,
         } => {
-            write_line(
-                tag,
-                &[U8(6), Name(room), Name(beginning), Name(after), U16(most)],
-                out,
-            )
+            let fields = [U8(6), Name(room), Name(beginning), Name(after), U16(most)];
+            write_line(tag, &fields, out)
         }
         Call::Versions { room, key } => write_line(tag, &[U8(7), Name(room), Name(key)], out),
+        _ => None,
+    }
+}
+
+// Writes a call of an upload in parts, and leaves `out` alone at any other.
+fn write_upload(tag: u32, call: Call<'_>, out: &mut [u8]) -> Option<usize>
+    ensures { λ r. ⌜ Wrote (uploads (call .entry) && fits (call .entry)) (lineOf tag (callBytes (means (call .entry)))) (now (out .entry)) r (now (out .exit)) ⌝ }
+{
+    match call {
         Call::Begin { room, key } => write_line(tag, &[U8(8), Name(room), Name(key)], out),
         Call::Part {
             room,
@@ -96,42 +128,37 @@ pub fn write_call(tag: u32, call: Call<'_>, out: &mut [u8]) -> Option<usize>
             place,
             bytes,
         } => {
-            write_line(
-                tag,
-                &[U8(9), Name(room), U64(upload), U16(place), Content(bytes)],
-                out,
-            )
+            let fields = [U8(9), Name(room), U64(upload), U16(place), Content(bytes)];
+            write_line(tag, &fields, out)
         }
         Call::Complete {
             room,
             upload,
             expected,
         } => {
-            write_line(
-                tag,
-                &[U8(10), Name(room), U64(upload), Expects(expected)],
-                out,
-            )
+            let fields = [U8(10), Name(room), U64(upload), Expects(expected)];
+            write_line(tag, &fields, out)
         }
         Call::Abort { room, upload } => write_line(tag, &[U8(11), Name(room), U64(upload)], out),
-        Call::Hold {
-            room,
-            key,
-            number,
-            until,
-        } => {
-            write_line(
-                tag,
-                &[U8(12), Name(room), Name(key), U64(number), U64(until)],
-                out,
-            )
-        }
-        Call::Rules { room, count, rules } => {
-            if !are_rules(count, rules) {
-                return None;
-            }
-            write_line(tag, &[U8(13), Name(room), U8(count), Plain(rules)], out)
-        }
+        _ => None,
+    }
+}
+
+// Writes the call to the front of `out` and says how long its line is, or leaves `out` alone: where there is
+// too little room, or no line can hold it.
+pub fn write_call(tag: u32, call: Call<'_>, out: &mut [u8]) -> Option<usize>
+    ensures { λ r. ⌜ Wrote (fits (call .entry)) (lineOf tag (callBytes (means (call .entry)))) (now (out .entry)) r (now (out .exit)) ⌝ }
+{
+    match call {
+        Call::MakeRoom { .. } | Call::DropRoom { .. } | Call::Rules { .. } => write_room(
+            tag,
+            call,
+            out,
+        ),
+        Call::Put { .. } | Call::Remove { .. } | Call::Hold { .. } => write_change(tag, call, out),
+        Call::Get { .. } | Call::Look { .. } | Call::Versions { .. } => write_read(tag, call, out),
+        Call::Begin { .. } | Call::Part { .. } | Call::Complete { .. } | Call::Abort { .. } =>
+            write_upload(tag, call, out),
         Call::Time { ms } => write_line(tag, &time_fields(ms), out),
     }
 }
