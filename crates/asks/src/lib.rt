@@ -1,7 +1,9 @@
 // Calls are written as lines, by whoever asks.
 ghost use mathlib.Core.Bool.{_&&_};
 ghost use mathlib.Core.List.{[], _∷_};
+ghost use mathlib.Core.Bool.{true};
 ghost use mathlib.Core.Path.{_≡_};
+ghost use Rattle.meaning.specs.Rooms.{Tick};
 ghost use Rattle.asks.specs.Short.{changes, fits, ofRoom, reads, uploads};
 ghost use Rattle.fills.specs.Fills.{Wrote};
 ghost use Rattle.lines.specs.Calls.{callBytes, lineOf};
@@ -161,4 +163,18 @@ pub fn write_call(tag: u32, call: Call<'_>, out: &mut [u8]) -> Option<usize>
             write_upload(tag, call, out),
         Call::Time { ms } => write_line(tag, &time_fields(ms), out),
     }
+}
+
+fn telling(ms: u64) -> Call<'static>
+    ensures { λ r. ⌜ r ≡ Call.Time ms ⌝ }
+{
+    Call::Time { ms }
+}
+
+// Writes the line that tells a time to the front of `out`, if there is room for it.
+pub fn write_time(tag: u32, ms: u64, out: &mut [u8]) -> Option<usize>
+    ensures { λ r. ⌜ Wrote true (lineOf tag (callBytes (Tick ms))) (now (out .entry)) r (now (out .exit)) ⌝ }
+{
+    let call = telling(ms);
+    write_call(tag, call, out)
 }

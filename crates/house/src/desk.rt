@@ -1,7 +1,4 @@
 // What the house does for each command: it looks at its bays, comes up if it isn't, and answers.
-ghost use mathlib.Core.Path.{_≡_};
-ghost use Rattle.meaning.specs.Rooms.{Tick};
-ghost use Rattle.lines.specs.Means.{means};
 use crate::files::DriveFiles;
 use crate::files::DriveFilesDisks;
 use bays::Drive;
@@ -9,8 +6,7 @@ use bays::DrivePartialEq;
 use bays::Drives;
 use console::push_hex;
 use front::House;
-use lines::calls::Call;
-use asks::write_call;
+use asks::write_time;
 use recorder::Recorder;
 use recorder::RecorderStepper;
 use std::io;
@@ -42,12 +38,6 @@ fn word(d: Drive) -> &'static str {
         Drive::Rebuilding => "rebuilding",
         Drive::Trusted => "trusted",
     }
-}
-
-fn telling(ms: u64) -> Call<'static>
-    ensures { λ r. ⌜ means r ≡ Tick ms ⌝ }
-{
-    Call::Time { ms }
 }
 
 impl Desk {
@@ -135,8 +125,7 @@ impl Desk {
     // Tells the time, as a line with tag 0 would.
     pub fn tell(&mut self, rt: &LibcRuntime, ms: u64, out: &mut Vec<u8>) -> io::Result<()> {
         let mut line = [0u8; 32];
-        let call = telling(ms);
-        let n = write_call(0, call, &mut line).unwrap_or(0);
+        let n = write_time(0, ms, &mut line).unwrap_or(0);
         self.call(rt, &line[0..n.min(32)], out)
     }
 
