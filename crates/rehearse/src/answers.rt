@@ -1,12 +1,11 @@
 // Lines of text to commands, and what comes of them to lines of text.
+use crate::machine::lay;
 use crate::rehearsal::Came;
 use crate::rehearsal::Fault;
 use crate::rehearsal::Rehearsal;
 use console::Input;
 use console::push_hex;
 use console::understand;
-use fills::Field;
-use fills::write_line;
 use script::Order;
 use script::read_order;
 use std::alloc::AllocError;
@@ -47,9 +46,10 @@ fn say_call(r: &mut Rehearsal, length: usize, out: &mut Vec<u8>) -> Result<(), A
     }
 }
 
+// The call that tells the time: 13 bytes follow the length, the tag is 0, the kind is 14.
 fn say_time(r: &mut Rehearsal, ms: u64, out: &mut Vec<u8>) -> Result<(), AllocError> {
-    let fields = [Field::U8(14), Field::U64(ms)];
-    let n = write_line(0, &fields, &mut r.line).unwrap_or(0);
+    let [a, b, c, d, e, f, g, h] = ms.to_be_bytes();
+    let n = lay(&[0, 0, 0, 13, 0, 0, 0, 0, 14, a, b, c, d, e, f, g, h], &mut r.line);
     say_call(r, n, out)
 }
 

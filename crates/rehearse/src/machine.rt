@@ -1,7 +1,7 @@
 // The machine that is rehearsed. This one stands in until the house is built: it asks the drives for nothing and turns every line away.
+ghost use Prim.Native.Nat.{_≤_};
+ghost use lib.ListN.{length};
 use driver::Disks;
-use fills::Field;
-use fills::write_line;
 use lines::order::Built;
 use lines::order::Refusal;
 use lines::order::tag_of;
@@ -21,6 +21,18 @@ pub fn lent() -> Lent {
     Lent { bytes: [0; 4096] }
 }
 
+// Lays bytes at the front of a buffer, if there is room, and says how many.
+pub fn lay(bytes: &[u8], out: &mut [u8]) -> usize
+    ensures { λ r. ⌜ r ≤ length (now (out .entry)) ⌝ }
+{
+    let n = bytes.len();
+    if n > out.len() {
+        return 0;
+    }
+    out[0..n].copy_from_slice(bytes);
+    n
+}
+
 impl House {
     pub fn new(longest: usize) -> House {
         House { longest }
@@ -34,8 +46,8 @@ impl House {
             Ok(_) => Refusal::NotBuilt,
             Err(why) => why,
         };
-        let fields = [Field::U8(0), Field::U8(why.number())];
-        write_line(tag_of(line), &fields, out).unwrap_or(0)
+        let [a, b, c, d] = tag_of(line).to_be_bytes();
+        lay(&[0, 0, 0, 6, a, b, c, d, 0, why.number()], out)
     }
 
     pub fn mend<D: Disks>(&mut self, _lent: &mut Lent, _disks: &mut D) -> bool {

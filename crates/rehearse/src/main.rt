@@ -6,6 +6,7 @@ mod rehearsal;
 use answers::answer_text;
 use console::Text;
 use console::TextLine;
+use machine::MOST_LENT;
 use rehearsal::Rehearsal;
 use std::env;
 use std::fs::File;
@@ -13,24 +14,40 @@ use std::io;
 use std::io::BufRead;
 use std::io::BufReader;
 use std::io::Write;
+use std::mem::forget;
 
 // Each line of a script is answered before the next is read.
-fn play<R: BufRead>(rt: &LibcRuntime, script: &mut R) -> io::Result<()> {
+fn play_on<R: BufRead>(
+    rt: &LibcRuntime,
+    rehearsal: &mut Rehearsal,
+    script: &mut R,
+) -> io::Result<()> {
     let heap = rt.alloc();
-    let mut rehearsal = Rehearsal::new(heap)?;
     let mut text = TextLine::new(heap);
     let mut out = Vec::new(heap);
     for _ in 0..u64::MAX {
         out.clear();
         match text.read(script)? {
             Text::End => break,
-            Text::TooLong => answer_text(&mut rehearsal, b"?", &mut out)?,
-            Text::Line => answer_text(&mut rehearsal, text.text(), &mut out)?,
+            Text::TooLong => answer_text(rehearsal, b"?", &mut out)?,
+            Text::Line => answer_text(rehearsal, text.text(), &mut out)?,
         }
         rt.stdout().write_all(&out)?;
         rehearsal.check_memory()?;
     }
     Ok(())
+}
+
+// Plays a script on fresh drives.
+fn play<R: BufRead>(rt: &LibcRuntime, script: &mut R) -> io::Result<()> {
+    let heap = rt.alloc();
+    let line = vec![in heap; 0u8; MOST_LENT + 1]?;
+    let answer = vec![in heap; 0u8; MOST_LENT + 1]?;
+    let mut rehearsal = Rehearsal::new(heap, line, answer);
+    let played = play_on(rt, &mut rehearsal, script);
+    rehearsal.empty(heap);
+    forget(rehearsal);
+    played
 }
 
 fn main(rt: LibcRuntime) -> io::Result<()> {

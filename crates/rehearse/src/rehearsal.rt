@@ -14,6 +14,7 @@ use std::alloc::Global;
 use std::io;
 use steps::Lent;
 
+// To be rid of it, `empty` it, and forget it.
 #[derive(Drop)]
 pub struct Rehearsal {
     pub disks: SimDrives,
@@ -61,12 +62,10 @@ fn choice_of(chosen: Chosen) -> Choice {
 }
 
 impl Rehearsal {
-    pub fn new(heap: Global) -> Result<Rehearsal, AllocError> {
-        let line = vec![in heap; 0u8; MOST_LENT + 1]?;
-        let answer = vec![in heap; 0u8; MOST_LENT + 1]?;
+    pub fn new(heap: Global, line: Vec<u8>, answer: Vec<u8>) -> Rehearsal {
         let disks = SimDrives::new(heap);
         let asked = disks.counts();
-        Ok(Rehearsal {
+        Rehearsal {
             disks,
             weak: Weak::none(),
             size: 8192,
@@ -79,7 +78,7 @@ impl Rehearsal {
             chosen: Chosen::Seed(0),
             line,
             answer,
-        })
+        }
     }
 
     pub fn set_size(&mut self, size: u64) -> Result<(), Fault> {
@@ -156,7 +155,7 @@ impl Rehearsal {
         self.disks.count_anew();
         if !self.open {
             self.house.open(&mut self.lent, &mut self.disks, self.size);
-            self.open = !self.disks.is_cut();
+            self.open = self.disks.is_on();
         }
         self.open
     }
@@ -164,12 +163,12 @@ impl Rehearsal {
     // After such a command: says whether it was cut short.
     fn went_down(&mut self) -> bool {
         let counts = self.disks.counts();
-        let cut = self.disks.is_cut();
+        let cut = !self.disks.is_on();
         if cut || counts.reads > 0 || counts.writes > 0 || counts.syncs > 0 {
             self.asked = counts;
             self.begun = true;
         }
-        if cut && self.disks.power() != Power::NoMemory {
+        if cut && !matches!(self.disks.power(), Power::NoMemory) {
             self.cut();
         }
         cut
@@ -177,8 +176,8 @@ impl Rehearsal {
 
     // Calls the house with the first bytes of the line; says how long the answer is.
     pub fn call(&mut self, length: usize) -> Came<usize> {
-        let n = length.min(self.line.len());
         let said = if self.come_up() {
+            let n = length.min(self.line.len());
             self.house.call(
                 &mut self.lent,
                 &mut self.disks,
@@ -219,13 +218,22 @@ impl Rehearsal {
         Came::To(u64::MAX)
     }
 
+    // Frees the memory that it holds.
+    pub fn empty(&mut self, heap: Global) {
+        for i in 0..6usize {
+            self.disks.lose(i);
+        }
+        self.line = Vec::new(heap);
+        self.answer = Vec::new(heap);
+    }
+
     pub fn is_open(&self) -> bool {
         self.open
     }
 
     // Without memory for the drives the rehearsal ends.
     pub fn check_memory(&self) -> io::Result<()> {
-        if self.disks.power() == Power::NoMemory {
+        if matches!(self.disks.power(), Power::NoMemory) {
             return Err(io::Error::from(AllocError));
         }
         Ok(())

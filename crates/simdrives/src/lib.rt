@@ -23,7 +23,7 @@ use drive::written;
 use sectors::Sectors;
 
 // Whether what is asked is carried out: always, or so many times more, or no longer, since the power failed or memory did.
-#[derive(Clone, Copy, PartialEq, Eq)]
+#[derive(Clone, Copy)]
 pub enum Power {
     On,
     Fails(u64),
@@ -39,6 +39,7 @@ pub struct Counts {
     pub syncs: u64,
 }
 
+// To be rid of it, `lose` each drive, which frees its memory, and forget it.
 #[derive(Drop)]
 pub struct SimDrives {
     drives: [Option<Sectors>; 6],
