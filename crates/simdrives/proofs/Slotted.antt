@@ -6,12 +6,11 @@ use mathlib.Core.Bool.{Bool, true, false, cond, not}
 use mathlib.Core.List.{List, []}
 use Prim.Native.Nat.{ℕ, _≤_, _<_}
 use native.Mathlib.Omega.{arith}
-use lib.Dec.{eqb, ltb}
+use lib.Dec.{eqb}
 use lib.ListN.{length, getD, set, length-set}
 use lib.Seq.{getD-set-same, getD-set-other}
 use borrow.Author.Tests.{eqb-true, eqb-false}
-use Rattle.std.proofs.shelf.Lists.{getD-default}
-use Rattle.std.proofs.shelf.Ways.{tells}
+use Rattle.std.proofs.shelf.Lists.{getD-default, getD-past}
 use Rattle.std.specs.Options.{isSome}
 use Rattle.std.specs.declared.option.Option.{Option}
 use Rattle.std.specs.declared.option.Option.the-variants.{None, Some}
@@ -20,12 +19,12 @@ use Rattle.drives.specs.Machines.{isGone}
 use Rattle.simdrives.specs.Sims.{slotOf, slots}
 use Rattle.simdrives.specs.declared.sectors.Sectors.{Sectors}
 
--- past the sixth there is none
-pub past : (ds : List (Option Sectors)) (i : ℕ) → 6 ≤ i → slots ds i ≡ gone
-past ds i h = let e : ltb i 6 ≡ false = grind (arith, tells) in rw e
+-- past the last there is none
+pub past : (ds : List (Option Sectors)) (i : ℕ) → length ds ≤ i → slots ds i ≡ gone
+past ds i h = ap slotOf (getD-past ds i None h)
 
-pub at-slot : (ds : List (Option Sectors)) (i : ℕ) (x : Option Sectors) → i < 6 → i < length ds → x ≡ getD ds i x → slots ds i ≡ slotOf x
-at-slot ds i x h k e = let t : ltb i 6 ≡ true = grind (arith, tells) in rw t (ap slotOf (getD-default ds i None x k ∙ sym e))
+pub at-slot : (ds : List (Option Sectors)) (i : ℕ) (x : Option Sectors) → i < length ds → x ≡ getD ds i x → slots ds i ≡ slotOf x
+at-slot ds i x k e = ap slotOf (getD-default ds i None x k ∙ sym e)
 
 -- putting what is there changes nothing
 pub put-same : (d : Drives) (i : ℕ) (x : Slot) → d i ≡ x → put i x d ≡ d
@@ -35,14 +34,12 @@ put-same d i x e = fun-ext (λ j. go j (eqb j i) refl)
     go j true t = sym e ∙ ap d (sym (eqb-true j i t))
     go j false t = refl
 
-pub set-put : (ds : List (Option Sectors)) (i : ℕ) (x : Option Sectors) → i < 6 → i < length ds → slots (set ds i x) ≡ put i (slotOf x) (slots ds)
-set-put ds i x l h = fun-ext (λ j. go j (eqb j i) refl)
+pub set-put : (ds : List (Option Sectors)) (i : ℕ) (x : Option Sectors) → i < length ds → slots (set ds i x) ≡ put i (slotOf x) (slots ds)
+set-put ds i x h = fun-ext (λ j. go j (eqb j i) refl)
   where
     go : (j : ℕ) (b : Bool) → eqb j i ≡ b → slots (set ds i x) j ≡ cond b (slotOf x) (slots ds j)
-    go j true t =
-        let e : ltb i 6 ≡ true = grind (arith, tells) in
-        ap (slots (set ds i x)) (eqb-true j i t) ∙ rw (e, getD-set-same ds i x None h)
-    go j false t = let ne : j ≢ i = eqb-false j i t in rw (getD-set-other ds i j x None ne)
+    go j true t = ap (slots (set ds i x)) (eqb-true j i t) ∙ ap slotOf (getD-set-same ds i x None h)
+    go j false t = ap slotOf (getD-set-other ds i j x None (eqb-false j i t))
 
 pub put-put : (d : Drives) (i : ℕ) (x y : Slot) → put i x (put i y d) ≡ put i x d
 put-put d i x y = fun-ext (λ j. go j (eqb j i))
@@ -67,15 +64,20 @@ told-gone (Some d) true e = e
 told-gone (Some d) false e = refl
 
 -- a drive was taken out, changed and put back
-pub changed : (ds es : List (Option Sectors)) (i : ℕ) (x y : Option Sectors) (s : Slot) → ds ≡ es → i < 6 → length ds ≡ 6 → slotOf y ≡ s → slots (set (set ds i x) i y) ≡ put i s (slots es)
-changed ds es i x y s e l n p =
-    let k : i < length ds = omega arith in
+pub changed : (ds es : List (Option Sectors)) (i : ℕ) (x y : Option Sectors) (s : Slot) → ds ≡ es → i < length ds → slotOf y ≡ s → slots (set (set ds i x) i y) ≡ put i s (slots es)
+changed ds es i x y s e k p =
     let m : i < length (set ds i x) = simp length-set (omega arith) in
-    set-put (set ds i x) i y l m ∙ (ap (put i (slotOf y)) (set-put ds i x l k) ∙ (put-put (slots ds) i (slotOf y) (slotOf x) ∙ (ap (λ z. put i z (slots ds)) p ∙ ap (λ (zs : List (Option Sectors)). put i s (slots zs)) e)))
+    set-put (set ds i x) i y m ∙ (ap (put i (slotOf y)) (set-put ds i x k) ∙ (put-put (slots ds) i (slotOf y) (slotOf x) ∙ (ap (λ z. put i z (slots ds)) p ∙ ap (λ (zs : List (Option Sectors)). put i s (slots zs)) e)))
 
--- what a drive past the sixth is asked changes nothing
-pub past-same : (ds es : List (Option Sectors)) (i : ℕ) (f : Slot → Slot) → ds ≡ es → 6 ≤ i → f gone ≡ gone → slots ds ≡ put i (f (slots es i)) (slots es)
-past-same ds es i f e h g = ap slots e ∙ sym (put-same (slots es) i (f (slots es i)) (past es i h ∙ sym (ap f (past es i h) ∙ g)))
+-- what a drive past the last is asked changes nothing
+pub past-same : (ds es : List (Option Sectors)) (i : ℕ) (f : Slot → Slot) → ds ≡ es → length ds ≤ i → f gone ≡ gone → slots ds ≡ put i (f (slots es i)) (slots es)
+past-same ds es i f e l g =
+    let h : length es ≤ i = subst (λ (zs : List (Option Sectors)). length zs ≤ i) e l in
+    ap slots e ∙ sym (put-same (slots es) i (f (slots es i)) (past es i h ∙ sym (ap f (past es i h) ∙ g)))
+
+pub gone-is-gone : isGone gone ≡ true
+unfolding isGone
+gone-is-gone = refl
 
 pub synced-gone : syncedOne gone ≡ gone
 unfolding syncedOne

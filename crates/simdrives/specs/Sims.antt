@@ -4,7 +4,7 @@ use mathlib.Core.Path.{_≡_}
 use mathlib.Core.Bool.{Bool, true, false, cond}
 use mathlib.Core.List.{List, [], _∷_, reverse}
 use Prim.Native.Nat.{ℕ}
-use lib.Dec.{eqb, ltb}
+use lib.Dec.{eqb}
 use lib.ListN.{getD}
 use Rattle.std.specs.Keys.{unsigned}
 use Rattle.std.specs.BTreeMap as tree
@@ -47,6 +47,6 @@ abbrev pub slotOf : Option Sectors → Slot
 slotOf None = gone
 slotOf (Some d) = there (driveOf d)
 
--- the drives, by their numbers; past the sixth there are none
+-- the drives, by their numbers; past the last there are none
 abbrev pub slots : List (Option Sectors) → ℕ → Slot
-slots ds i = cond (ltb i 6) (slotOf (getD ds i None)) gone
+slots ds i = slotOf (getD ds i None)

@@ -5,11 +5,14 @@ ghost use mathlib.Core.List.{List, []};
 ghost use Prim.Native.Nat.{ℕ, _<_};
 ghost use lib.Dec.{ltb};
 ghost use lib.ListN.{getD, length};
+ghost use Rattle.std.specs.Of.Vec.{vec-items};
+ghost use Rattle.std.specs.Vec.{made};
 ghost use Rattle.drives.specs.Drives.{Drives, gone, there, blankDrive, shown, writtenTo, syncedOne, put, AfterCut, CutSlot};
 ghost use Rattle.drives.specs.Machines.{isGone};
 ghost use Rattle.simdrives.specs.Sims.{slots};
 ghost use Rattle.simdrives.specs.Powers.{works, askedOf};
 use driver::Disks;
+use std::alloc::AllocError;
 use std::alloc::Global;
 
 mod choices;
@@ -23,7 +26,7 @@ use drive::written;
 use sectors::Sectors;
 
 // Whether what is asked is carried out: always, or so many times more, or no longer, since the power failed or memory did.
-#[derive(Clone, Copy, PartialEq, Eq)]
+#[derive(Clone, Copy)]
 pub enum Power {
     On,
     Fails(u64),
@@ -41,7 +44,7 @@ pub struct Counts {
 
 #[derive(Drop)]
 pub struct SimDrives {
-    drives: [Option<Sectors>; 6],
+    drives: Vec<Option<Sectors>>,
     heap: Global,
     power: Power,
     counts: Counts,
@@ -55,23 +58,19 @@ const NONE: Counts = Counts {
 
 impl SimDrives {
     // Six blank drives.
-    pub fn new(heap: Global) -> SimDrives
-        ensures drives { λ r. ⌜ ((i : ℕ) → i < 6 → slots (r .drives) i ≡ there blankDrive) ⌝ }
-        ensures power { λ r. ⌜ r .power ≡ Power.On ⌝ }
+    pub fn new(heap: Global) -> Result<SimDrives, AllocError>
+        ensures { λ r. ⌜ made r (λ d. ((i : ℕ) → i < 6 → slots (vec-items (d .drives)) i ≡ there blankDrive) × (d .power ≡ Power.On)) ⌝ }
     {
-        SimDrives {
-            drives: [
-                Some(Sectors::new(heap)),
-                Some(Sectors::new(heap)),
-                Some(Sectors::new(heap)),
-                Some(Sectors::new(heap)),
-                Some(Sectors::new(heap)),
-                Some(Sectors::new(heap)),
-            ],
+        let mut drives = Vec::new(heap);
+        for _i in 0..6u8 {
+            drives.push(Some(Sectors::new(heap)))?;
+        }
+        Ok(SimDrives {
+            drives,
             heap,
             power: Power::On,
             counts: NONE,
-        }
+        })
     }
 
     pub fn counts(&self) -> Counts
@@ -112,31 +111,41 @@ impl SimDrives {
         self.power = Power::Fails(askings);
     }
 
+    fn is_gone(&self, drive: usize) -> bool
+        ensures { λ r. ⌜ r ≡ isGone (slots (vec-items (now (self .entry) .drives)) drive) ⌝ }
+    {
+        if drive < self.drives.len() {
+            self.drives[drive].is_none()
+        } else {
+            true
+        }
+    }
+
     // Which drives are gone.
     pub fn gone(&self) -> [bool; 6]
-        ensures { λ r. ⌜ ((i : ℕ) → i < 6 → getD r i true ≡ isGone (slots (now (self .entry) .drives) i)) ⌝ }
+        ensures { λ r. ⌜ ((i : ℕ) → i < 6 → getD r i true ≡ isGone (slots (vec-items (now (self .entry) .drives)) i)) ⌝ }
     {
         let mut gone = [false; 6];
         for i in 0..6usize {
-            gone[i] = self.drives[i].is_none();
+            gone[i] = self.is_gone(i);
         }
         gone
     }
 
     pub fn lose(&mut self, drive: usize)
-        ensures { λ _. ⌜ slots (now (self .exit) .drives) ≡ put drive gone (slots (now (self .entry) .drives)) ⌝ }
+        ensures { λ _. ⌜ slots (vec-items (now (self .exit) .drives)) ≡ put drive gone (slots (vec-items (now (self .entry) .drives))) ⌝ }
     {
-        if drive < 6 {
+        if drive < self.drives.len() {
             self.drives[drive] = None;
         }
     }
 
     // A blank drive in the place of one that is gone; says whether it was.
     pub fn replace(&mut self, drive: usize) -> bool
-        ensures test { λ r. ⌜ (r ≡ true → (drive < 6) × (slots (now (self .entry) .drives) drive ≡ gone)) ⌝ }
-        ensures drives { λ r. ⌜ slots (now (self .exit) .drives) ≡ cond r (put drive (there blankDrive) (slots (now (self .entry) .drives))) (slots (now (self .entry) .drives)) ⌝ }
+        ensures test { λ r. ⌜ (r ≡ true → slots (vec-items (now (self .entry) .drives)) drive ≡ gone) ⌝ }
+        ensures drives { λ r. ⌜ slots (vec-items (now (self .exit) .drives)) ≡ cond r (put drive (there blankDrive) (slots (vec-items (now (self .entry) .drives)))) (slots (vec-items (now (self .entry) .drives))) ⌝ }
     {
-        if drive < 6 && self.drives[drive].is_none() {
+        if drive < self.drives.len() && self.drives[drive].is_none() {
             self.drives[drive] = Some(Sectors::new(self.heap));
             true
         } else {
@@ -146,21 +155,22 @@ impl SimDrives {
 
     // Leaves what a cut may leave of one drive.
     fn cut_one(&mut self, drive: usize, choice: &mut Choice)
-        requires { ⌜ drive < 6 ⌝ }
-        ensures here { λ _. ⌜ CutSlot (slots (now (self .entry) .drives) drive) (slots (now (self .exit) .drives) drive) ⌝ }
-        ensures other { λ _. ⌜ ((i : ℕ) → (i ≡ drive → ⊥) → slots (now (self .exit) .drives) i ≡ slots (now (self .entry) .drives) i) ⌝ }
+        ensures here { λ _. ⌜ CutSlot (slots (vec-items (now (self .entry) .drives)) drive) (slots (vec-items (now (self .exit) .drives)) drive) ⌝ }
+        ensures other { λ _. ⌜ ((i : ℕ) → (i ≡ drive → ⊥) → slots (vec-items (now (self .exit) .drives)) i ≡ slots (vec-items (now (self .entry) .drives)) i) ⌝ }
     {
-        let slot = std::mem::replace(&mut self.drives[drive], None);
-        self.drives[drive] = after_cut(slot, self.heap, choice);
+        if drive < self.drives.len() {
+            let slot = std::mem::replace(&mut self.drives[drive], None);
+            self.drives[drive] = after_cut(slot, self.heap, choice);
+        }
     }
 
     // The power fails, and comes back.
     pub fn cut(&mut self, choice: Choice)
-        ensures drives { λ _. ⌜ AfterCut (slots (now (self .entry) .drives)) (slots (now (self .exit) .drives)) ⌝ }
+        ensures drives { λ _. ⌜ AfterCut (slots (vec-items (now (self .entry) .drives))) (slots (vec-items (now (self .exit) .drives))) ⌝ }
         ensures power { λ _. ⌜ now (self .exit) .power ≡ Power.On ⌝ }
     {
         let mut choice = choice;
-        for i in 0..6usize {
+        for i in 0..self.drives.len() {
             self.cut_one(i, &mut choice);
         }
         self.power = Power::On;
@@ -189,14 +199,14 @@ impl SimDrives {
     // Says whether there was a sector to be read, and that is so only while the power is on.
     fn read_one(&mut self, drive: usize, sector: u64, into: &mut [u8; 512]) -> bool
         ensures on { λ _. ⌜ now (self .exit) .power ≡ askedOf (now (self .entry) .power) ⌝ }
-        ensures same { λ _. ⌜ slots (now (self .exit) .drives) ≡ slots (now (self .entry) .drives) ⌝ }
-        ensures value { λ r. ⌜ cond r (now (into .exit)) [] ≡ cond (works (now (self .exit) .power)) (shown (slots (now (self .entry) .drives) drive) sector) [] ⌝ }
+        ensures same { λ _. ⌜ slots (vec-items (now (self .exit) .drives)) ≡ slots (vec-items (now (self .entry) .drives)) ⌝ }
+        ensures value { λ r. ⌜ cond r (now (into .exit)) [] ≡ cond (works (now (self .exit) .power)) (shown (slots (vec-items (now (self .entry) .drives)) drive) sector) [] ⌝ }
     {
         if !self.carries_on() {
             return false;
         }
         self.counts.reads = self.counts.reads.saturating_add(1);
-        if drive < 6 {
+        if drive < self.drives.len() {
             match &self.drives[drive] {
                 Some(d) => {
                     d.read(sector, into);
@@ -212,13 +222,13 @@ impl SimDrives {
     // Without memory nothing is written, and nothing more is carried out.
     fn write_one(&mut self, drive: usize, sector: u64, bytes: &[u8; 512])
         ensures on { λ _. ⌜ (works (now (self .exit) .power) ≡ true → now (self .exit) .power ≡ askedOf (now (self .entry) .power)) ⌝ }
-        ensures drives { λ _. ⌜ slots (now (self .exit) .drives) ≡ cond (works (now (self .exit) .power)) (put drive (writtenTo sector (now (bytes .entry)) (slots (now (self .entry) .drives) drive)) (slots (now (self .entry) .drives))) (slots (now (self .entry) .drives)) ⌝ }
+        ensures drives { λ _. ⌜ slots (vec-items (now (self .exit) .drives)) ≡ cond (works (now (self .exit) .power)) (put drive (writtenTo sector (now (bytes .entry)) (slots (vec-items (now (self .entry) .drives)) drive)) (slots (vec-items (now (self .entry) .drives)))) (slots (vec-items (now (self .entry) .drives))) ⌝ }
     {
         if !self.carries_on() {
             return;
         }
         self.counts.writes = self.counts.writes.saturating_add(1);
-        if drive < 6 {
+        if drive < self.drives.len() {
             let slot = std::mem::replace(&mut self.drives[drive], None);
             let (slot, done) = written(slot, self.heap, sector, bytes);
             self.drives[drive] = slot;
@@ -230,13 +240,13 @@ impl SimDrives {
 
     fn sync_one(&mut self, drive: usize)
         ensures on { λ _. ⌜ now (self .exit) .power ≡ askedOf (now (self .entry) .power) ⌝ }
-        ensures drives { λ _. ⌜ slots (now (self .exit) .drives) ≡ cond (works (now (self .exit) .power)) (put drive (syncedOne (slots (now (self .entry) .drives) drive)) (slots (now (self .entry) .drives))) (slots (now (self .entry) .drives)) ⌝ }
+        ensures drives { λ _. ⌜ slots (vec-items (now (self .exit) .drives)) ≡ cond (works (now (self .exit) .power)) (put drive (syncedOne (slots (vec-items (now (self .entry) .drives)) drive)) (slots (vec-items (now (self .entry) .drives)))) (slots (vec-items (now (self .entry) .drives))) ⌝ }
     {
         if !self.carries_on() {
             return;
         }
         self.counts.syncs = self.counts.syncs.saturating_add(1);
-        if drive < 6 {
+        if drive < self.drives.len() {
             let slot = std::mem::replace(&mut self.drives[drive], None);
             self.drives[drive] = synced(slot);
         }
@@ -245,7 +255,7 @@ impl SimDrives {
 
 // Of drives that may fail at any time nothing is known beforehand, so the clauses of `Disks` say nothing here: what is carried out is said by `read_one`, `write_one` and `sync_one`.
 pub impl Disks for SimDrives as SimDisks {
-    ghost model = { λ s. slots (s .drives) };
+    ghost model = { λ s. slots (vec-items (s .drives)) };
 
     ghost known = { λ _. ⊥ };
 
