@@ -8,13 +8,13 @@ use console::Text;
 use console::TextLine;
 use machine::MOST_LENT;
 use rehearsal::Rehearsal;
+use simdrives::SimDrives;
 use std::env;
 use std::fs::File;
 use std::io;
 use std::io::BufRead;
 use std::io::BufReader;
 use std::io::Write;
-use std::mem::forget;
 
 // Each line of a script is answered before the next is read.
 fn play_on<R: BufRead>(
@@ -43,11 +43,8 @@ fn play<R: BufRead>(rt: &LibcRuntime, script: &mut R) -> io::Result<()> {
     let heap = rt.alloc();
     let line = vec![in heap; 0u8; MOST_LENT + 1]?;
     let answer = vec![in heap; 0u8; MOST_LENT + 1]?;
-    let mut rehearsal = Rehearsal::new(heap, line, answer);
-    let played = play_on(rt, &mut rehearsal, script);
-    rehearsal.empty(heap);
-    forget(rehearsal);
-    played
+    let mut rehearsal = Rehearsal::new(SimDrives::new(heap)?, line, answer);
+    play_on(rt, &mut rehearsal, script)
 }
 
 fn main(rt: LibcRuntime) -> io::Result<()> {

@@ -10,11 +10,9 @@ use simdrives::Power;
 use simdrives::SimDisks;
 use simdrives::SimDrives;
 use std::alloc::AllocError;
-use std::alloc::Global;
 use std::io;
 use steps::Lent;
 
-// To be rid of it, `empty` it, and forget it.
 #[derive(Drop)]
 pub struct Rehearsal {
     pub disks: SimDrives,
@@ -62,8 +60,7 @@ fn choice_of(chosen: Chosen) -> Choice {
 }
 
 impl Rehearsal {
-    pub fn new(heap: Global, line: Vec<u8>, answer: Vec<u8>) -> Rehearsal {
-        let disks = SimDrives::new(heap);
+    pub fn new(disks: SimDrives, line: Vec<u8>, answer: Vec<u8>) -> Rehearsal {
         let asked = disks.counts();
         Rehearsal {
             disks,
@@ -216,15 +213,6 @@ impl Rehearsal {
             }
         }
         Came::To(u64::MAX)
-    }
-
-    // Frees the memory that it holds.
-    pub fn empty(&mut self, heap: Global) {
-        for i in 0..6usize {
-            self.disks.lose(i);
-        }
-        self.line = Vec::new(heap);
-        self.answer = Vec::new(heap);
     }
 
     pub fn is_open(&self) -> bool {
