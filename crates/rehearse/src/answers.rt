@@ -11,7 +11,8 @@ use script::read_order;
 use std::alloc::AllocError;
 use std::io::Write;
 
-const HELP: &[u8] = b"help: drives N, longest N, in HEX, time T, mend, mend whole, status, lose I, replace I, asked, cut N SEED, cut N bits B\n";
+const HELP: &[u8] =
+    b"help: drives N, longest N, in HEX, time T, mend, mend whole, status, lose I, replace I, asked, cut N SEED, cut N bits B\n";
 
 fn say(out: &mut Vec<u8>, text: &[u8]) -> Result<(), AllocError> {
     out.extend_from_slice(text)
@@ -26,7 +27,10 @@ fn say_number(out: &mut Vec<u8>, n: u64) -> Result<(), AllocError> {
 fn say_done(out: &mut Vec<u8>, done: Result<(), Fault>) -> Result<(), AllocError> {
     match done {
         Ok(()) => Ok(()),
-        Err(Fault::Begun) => say(out, b"refused: the drives were asked for something before\n"),
+        Err(Fault::Begun) => say(
+            out,
+            b"refused: the drives were asked for something before\n",
+        ),
         Err(Fault::OutOfRange) => say(out, b"refused: the number is out of range\n"),
         Err(Fault::TwoWeak) => say(out, b"refused: two other drives are weak\n"),
         Err(Fault::NotGone) => say(out, b"refused: the drive is not gone\n"),
@@ -49,7 +53,10 @@ fn say_call(r: &mut Rehearsal, length: usize, out: &mut Vec<u8>) -> Result<(), A
 // The call that tells the time: 13 bytes follow the length, the tag is 0, the kind is 14.
 fn say_time(r: &mut Rehearsal, ms: u64, out: &mut Vec<u8>) -> Result<(), AllocError> {
     let [a, b, c, d, e, f, g, h] = ms.to_be_bytes();
-    let n = lay(&[0, 0, 0, 13, 0, 0, 0, 0, 14, a, b, c, d, e, f, g, h], &mut r.line);
+    let n = lay(
+        &[0, 0, 0, 13, 0, 0, 0, 0, 14, a, b, c, d, e, f, g, h],
+        &mut r.line,
+    );
     say_call(r, n, out)
 }
 
@@ -101,7 +108,14 @@ fn say_status(r: &Rehearsal, out: &mut Vec<u8>) -> Result<(), AllocError> {
     say_drives(out, &r.disks.gone())?;
     say(out, b"; weak:")?;
     say_drives(out, &r.weak.drives)?;
-    say(out, if r.is_open() { b"; the house is open\n" } else { b"; the house is shut\n" })
+    say(
+        out,
+        if r.is_open() {
+            b"; the house is open\n"
+        } else {
+            b"; the house is shut\n"
+        },
+    )
 }
 
 // What both programs are told.

@@ -41,7 +41,13 @@ impl House {
     pub fn open<D: Disks>(&mut self, _lent: &mut Lent, _disks: &mut D, _size: u64) {}
 
     // Answers a line at the front of `out`, and says how long the answer is.
-    pub fn call<D: Disks>(&mut self, _lent: &mut Lent, _disks: &mut D, line: &[u8], out: &mut [u8]) -> usize {
+    pub fn call<D: Disks>(
+        &mut self,
+        _lent: &mut Lent,
+        _disks: &mut D,
+        line: &[u8],
+        out: &mut [u8],
+    ) -> usize {
         let why = match turned_away(line, Built::Nothing, self.longest, 0, 1) {
             Ok(_) => Refusal::NotBuilt,
             Err(why) => why,
