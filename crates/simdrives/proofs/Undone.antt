@@ -39,6 +39,7 @@ wrote f g ws w b old new other = ap there (drive-eq _ _ (λ t. kept-at t (eqb t 
     kept-at : (t : ℕ) (v : Bool) → eqb t (w .sector) ≡ v → cond v (keptBy ws (bytesBefore w) t) (keptBy ws (g t) t) ≡ keptBy ws (f t) t
     kept-at t true e = let p : t ≡ w .sector = eqb-true t (w .sector) e in ap (λ bs. keptBy ws bs t) (sym old ∙ sym (ap f p))
     kept-at t false e = ap (λ bs. keptBy ws bs t) (other t e)
+
     since-at : (t : ℕ) (v : Bool) → eqb t (w .sector) ≡ v →
         cond v (g t ∷ sinceBy ws (bytesBefore w) t) (sinceBy ws (g t) t) ≡ cond v (b ∷ sinceBy ws (f (w .sector)) (w .sector)) (sinceBy ws (f t) t)
     since-at t true e =
@@ -99,6 +100,7 @@ among-back f g h done rest w a here other t = go (eqb t (w .sector)) refl
     at-w =
         ⊎-elim (λ q. subst (AmongAt f (done ++ w ∷ rest) (w .sector)) (sym q) (before-among done rest w (f (w .sector))))
         (λ q. subst (AmongAt f (done ++ w ∷ rest) (w .sector)) (sym q) (a (w .sector))) here
+
     go : (v : Bool) → eqb t (w .sector) ≡ v → AmongAt f (done ++ w ∷ rest) t (h t)
     go true e = subst (λ (s : ℕ). AmongAt f (done ++ w ∷ rest) s (h s)) (sym (eqb-true t (w .sector) e)) at-w
     go false e = subst (AmongAt f (done ++ w ∷ rest) t) (sym (other t e)) (a t)

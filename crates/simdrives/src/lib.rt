@@ -271,3 +271,49 @@ pub impl Disks for SimDrives as SimDisks {
         self.sync_one(drive as usize);
     }
 }
+
+#[cfg(test)]
+mod tests {
+    use super::*;
+    use std::test::*;
+
+    fn byte(d: &mut SimDrives, drive: u8, sector: u64) -> u8 {
+        let mut bytes = [9; 512];
+        if d.read(drive, sector, &mut bytes) {
+            bytes[0]
+        } else {
+            255
+        }
+    }
+
+    // Sectors 5 and 7 are not synced: the first bit leaves 5 old, the second leaves 7 new.
+    #[test]
+    fn cuts_by_bits(rt: LibcRuntime) -> Result<(), Fail> {
+        let mut d = SimDrives::new(rt.alloc())?;
+        d.write(0, 5, &[1; 512]);
+        d.sync(0);
+        d.write(0, 7, &[4; 512]);
+        d.write(0, 5, &[2; 512]);
+        d.write(0, 5, &[3; 512]);
+        d.cut(Choice::Bits(2));
+        check_eq(byte(&mut d, 0, 5), 1)?;
+        check_eq(byte(&mut d, 0, 7), 4)?;
+        d.write(0, 7, &[6; 512]);
+        d.cut(Choice::Old);
+        check_eq(byte(&mut d, 0, 7), 4)
+    }
+
+    #[test]
+    fn fails_in_time(rt: LibcRuntime) -> Result<(), Fail> {
+        let mut d = SimDrives::new(rt.alloc())?;
+        d.fail_after(1);
+        d.write(1, 5, &[1; 512]);
+        check(d.is_on())?;
+        d.write(1, 6, &[1; 512]);
+        check(!d.is_on())?;
+        check_eq(byte(&mut d, 1, 5), 255)?;
+        d.cut(Choice::Newest);
+        check_eq(byte(&mut d, 1, 5), 1)?;
+        check_eq(byte(&mut d, 1, 6), 0)
+    }
+}

@@ -30,10 +30,11 @@ loop-d-again c =
     let ds = c .args .digits .now in
     let i = c .loop-d .d-index in
     let t : isDecimal (getD ds i 0) ≡ true = sym (c .if-not-is-decimal .ensures tt) in
-    let v : onward (c .loop-d .n) (getD ds i 0) ≡ c .saturating-add-n .result = cc in
-    ( c .loop-d .inv .0 ∙ read-more (c .loop-d .n) ds i (omega arith) t ∙ ap (λ k. readFrom k (drop (i + 1) ds)) v
-    , omega arith
-    , c .loop-d .inv .2 ∙ (passes-more isDecimal ds i (omega arith) ∙ ap (λ b. b && allPass isDecimal (drop (i + 1) ds)) t) )
+    let v : onward (c .loop-d .n) (getD ds i 0) ≡ c .saturating-add-n .result = cc in (
+      c .loop-d .inv .0 ∙ read-more (c .loop-d .n) ds i (omega arith) t ∙ ap (λ k. readFrom k (drop (i + 1) ds)) v,
+      omega arith,
+      c .loop-d .inv .2 ∙ (passes-more isDecimal ds i (omega arith) ∙ ap (λ b. b && allPass isDecimal (drop (i + 1) ds)) t),
+    )
 
 pub returns : need.returns
 returns c =

@@ -17,9 +17,10 @@ loop-i-again c =
     let g = c .loop-i .gone in
     let r = c .is-gone .result in
     let n = c .loop-i .inv .0 in
-    let lt : i < length g = omega arith in
-    ( simp length-set n
-    , below-more _ _ (λ k h. let ne : k ≢ i = omega arith in getD-set-other g i k r true ne ∙ c .loop-i .inv .1 k h) (getD-set-same g i r true lt ∙ c .is-gone .ensures) )
+    let lt : i < length g = omega arith in (
+      simp length-set n,
+      below-more _ _ (λ k h. let ne : k ≢ i = omega arith in getD-set-other g i k r true ne ∙ c .loop-i .inv .1 k h) (getD-set-same g i r true lt ∙ c .is-gone .ensures),
+    )
 
 pub returns : need.returns
 returns c = λ k h. c .loop-i .inv .1 k (omega arith)

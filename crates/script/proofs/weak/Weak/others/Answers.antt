@@ -16,9 +16,10 @@ loop-i-again c =
     let lt : c .loop-i .i < length (c .args .self .now .drives) = omega arith in
     let e = others-more (c .args .drive) (c .loop-i .i) (c .args .self .now .drives) lt in
     let i = c .loop-i .inv .0 in
-    elim (c .if-self-i .came)
-    [ then-self-i·then-i-drive w ↦ (grind (arith, tells), omega (arith, w .n-is))
-    | else-self-i w ↦ elim (w .else-self-i .came) [ else-self-i·by·then-self-i·else-i-drive v ↦ (grind (arith, tells), omega (arith, w .n-is)) | else-self-i·by·else-self-i v ↦ (grind (arith, tells), omega (arith, w .n-is)) ] ]
+    elim (c .if-self-i .came) [
+      | then-self-i·then-i-drive w ↦ (grind (arith, tells), omega (arith, w .n-is))
+      | else-self-i w ↦ elim (w .else-self-i .came) [ else-self-i·by·then-self-i·else-i-drive v ↦ (grind (arith, tells), omega (arith, w .n-is)) | else-self-i·by·else-self-i v ↦ (grind (arith, tells), omega (arith, w .n-is)) ]
+    ]
 
 pub returns : need.returns
 returns c =

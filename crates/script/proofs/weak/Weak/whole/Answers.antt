@@ -23,12 +23,13 @@ loop-i-again c =
     let lt : i < length ds = omega arith in
     let v : x ≡ (getD ds i false && getD (c .args .gone .now) i false) =
     elim (c .if-self-i .came) [ then-self-i w ↦ search (needs, tells) | else-self-i w ↦ search (needs, tells) ]
-    in
-    ( simp length-set n
-    , below-more _ _
-      (λ k h. let ne : k ≢ i = omega arith in getD-set-other ds i k x false ne ∙ c .loop-i .inv .1 k h)
-      (getD-set-same ds i x false lt ∙ (v ∙ ap (λ b. b && getD (c .args .gone .now) i false) (c .loop-i .inv .2 i (omega arith))))
-    , λ k h. let ne : k ≢ i = omega arith in getD-set-other ds i k x false ne ∙ c .loop-i .inv .2 k (omega arith) )
+    in (
+      simp length-set n,
+      below-more _ _
+          (λ k h. let ne : k ≢ i = omega arith in getD-set-other ds i k x false ne ∙ c .loop-i .inv .1 k h)
+          (getD-set-same ds i x false lt ∙ (v ∙ ap (λ b. b && getD (c .args .gone .now) i false) (c .loop-i .inv .2 i (omega arith)))),
+      λ k h. let ne : k ≢ i = omega arith in getD-set-other ds i k x false ne ∙ c .loop-i .inv .2 k (omega arith),
+    )
 
 pub returns : need.returns
 returns c = λ k h. c .loop-i .inv .1 k (omega arith)

@@ -26,7 +26,8 @@ returns-in-Some c =
     record {
       undo = refl;
       here = ⊎-elim (λ q. inl (ap (bytesOf box-value) (q ∙ sym (c .in-Some .is)))) (λ q. inr (ap (bytesOf box-value) q)) (p .here);
-      other = λ s e. ap (bytesOf box-value) (p .other s e) }
+      other = λ s e. ap (bytesOf box-value) (p .other s e);
+    }
 
 pub returns-in-None : need.returns-in-None
 returns-in-None c =
@@ -35,4 +36,5 @@ returns-in-None c =
     record {
       undo = refl;
       here = ⊎-elim (λ q. inl (ap (bytesOf box-value) (q ∙ sym (c .in-None .is)))) (λ q. inr (ap (bytesOf box-value) q)) (p .here);
-      other = λ s e. ap (bytesOf box-value) (p .other s e) }
+      other = λ s e. ap (bytesOf box-value) (p .other s e);
+    }
