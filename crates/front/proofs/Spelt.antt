@@ -29,11 +29,11 @@ module _ {L : Type 0} (s : Stepping Call Reply L) where
   spelt x = record { value = record { reply = toldBytes (x .value .reply); mem = x .value .mem }; drives = x .drives }
 
   pub line-leaves : (longest b : ℕ) (l : List ℕ) (a : Asked) (h g : Mem) (r : Told) (d e : Drives) → a ≡ askedIn longest l (h .me .upper .time) →
-    Leaves (machineOf (stackOf clockCode s) b .does a h) d (record { reply = r; mem = g }) e →
-    Leaves (machineOf (stackOf (lineCode longest) s) b .does l h) d (record { reply = toldBytes r; mem = g }) e
+      Leaves (machineOf (stackOf clockCode s) b .does a h) d (record { reply = r; mem = g }) e →
+      Leaves (machineOf (stackOf (lineCode longest) s) b .does l h) d (record { reply = toldBytes r; mem = g }) e
   unfolding run
   line-leaves longest b l a h g r d e q p =
-    let w = whole b (askedIn longest l (h .me .upper .time)) h in
-    let p' = subst (λ (c : Asked). Leaves (machineOf (stackOf clockCode s) b .does c h) d (record { reply = r; mem = g }) e) q p in
-    run-then w (λ x. answer (record { reply = toldBytes (clockCode .says (x .me .upper)); mem = x })) d
-    ∙ ap spelt (sym (run-then w (λ x. answer (record { reply = clockCode .says (x .me .upper); mem = x })) d) ∙ p')
+      let w = whole b (askedIn longest l (h .me .upper .time)) h in
+      let p' = subst (λ (c : Asked). Leaves (machineOf (stackOf clockCode s) b .does c h) d (record { reply = r; mem = g }) e) q p in
+      run-then w (λ x. answer (record { reply = toldBytes (clockCode .says (x .me .upper)); mem = x })) d
+      ∙ ap spelt (sym (run-then w (λ x. answer (record { reply = clockCode .says (x .me .upper); mem = x })) d) ∙ p')

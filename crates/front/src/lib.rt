@@ -40,7 +40,10 @@ fn hear(line: &[u8], longest: usize, time: u64) -> Asked
         Ok(_) => Heard::Refused(Refusal::NotBuilt),
         Err(why) => Heard::Refused(why),
     };
-    Asked { tag: tag_of(line), heard }
+    Asked {
+        tag: tag_of(line),
+        heard,
+    }
 }
 
 fn answer_of(said: Said) -> Answer<'static>
@@ -75,8 +78,16 @@ impl<L: Stepper<Call = register::Call, Reply = register::Reply>> House<L> {
     pub fn new(lower: L, longest: usize) -> House<L>
         ensures { λ r. ⌜ r .longest ≡ longest ⌝ }
     {
-        let upper = Clock { time: 0, tag: 0, phase: Phase::Rising };
-        let stack = Stack { upper, lower, doing: Doing::Opens };
+        let upper = Clock {
+            time: 0,
+            tag: 0,
+            phase: Phase::Rising,
+        };
+        let stack = Stack {
+            upper,
+            lower,
+            doing: Doing::Opens,
+        };
         House { stack, longest }
     }
 

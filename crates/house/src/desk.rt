@@ -1,12 +1,12 @@
 // What the house does for each command: it looks at its bays, comes up if it isn't, and answers.
 use crate::files::DriveFiles;
 use crate::files::DriveFilesDisks;
+use asks::write_time;
 use bays::Drive;
 use bays::DrivePartialEq;
 use bays::Drives;
 use console::push_hex;
 use front::House;
-use asks::write_time;
 use recorder::Recorder;
 use recorder::RecorderStepper;
 use std::io;
@@ -84,7 +84,8 @@ impl Desk {
             return Ok(false);
         }
         if !self.up {
-            self.house.open(&mut self.lent, &mut self.files, self.drives.sectors);
+            self.house
+                .open(&mut self.lent, &mut self.files, self.drives.sectors);
             self.up = true;
             return self.stands(rt, out);
         }
@@ -98,7 +99,10 @@ impl Desk {
         }
         self.up = false;
         if let Some(i) = self.files.put_away(rt, self.drives.count_there())? {
-            eprintln!(rt, "drive{i} failed: it is lost, and its file is now drive{i}.lost")?;
+            eprintln!(
+                rt,
+                "drive{i} failed: it is lost, and its file is now drive{i}.lost"
+            )?;
         } else {
             eprintln!(rt, "too many drives failed at once: none is taken for lost")?;
         }
@@ -112,7 +116,13 @@ impl Desk {
             return Ok(());
         }
         let mut answer = [0u8; 64];
-        let n = answer_line(&mut self.house, &mut self.lent, &mut self.files, line, &mut answer).unwrap_or(0);
+        let n = answer_line(
+            &mut self.house,
+            &mut self.lent,
+            &mut self.files,
+            line,
+            &mut answer,
+        ).unwrap_or(0);
         if !self.stands(rt, out)? {
             return Ok(());
         }

@@ -78,12 +78,14 @@ fn try_again(file: &mut File, what: Failure) -> io::Result<()> {
 fn label_of(file: &mut File) -> io::Result<Label> {
     let mut sector = [0u8; 512];
     read_sector(file, 0, &mut sector)?;
-    Ok(match read_label(&sector) {
-        labels::Label::Blank => Label::Blank,
-        labels::Label::Rebuilding => Label::Mark,
-        labels::Label::Empty | labels::Label::Committed(_) => Label::Record,
-        labels::Label::Missing | labels::Label::Foreign => Label::Foreign,
-    })
+    Ok(
+        match read_label(&sector) {
+            labels::Label::Blank => Label::Blank,
+            labels::Label::Rebuilding => Label::Mark,
+            labels::Label::Empty | labels::Label::Committed(_) => Label::Record,
+            labels::Label::Missing | labels::Label::Foreign => Label::Foreign,
+        },
+    )
 }
 
 fn open_drive<R: Files>(rt: &R, i: usize) -> io::Result<R::File> {
@@ -99,7 +101,10 @@ fn open_drive<R: Files>(rt: &R, i: usize) -> io::Result<R::File> {
 fn see(file: &mut File) -> io::Result<Seen> {
     let bytes = file.metadata()?.len();
     if bytes < SECTOR {
-        return Ok(Seen::File { bytes, label: Label::Foreign });
+        return Ok(Seen::File {
+            bytes,
+            label: Label::Foreign,
+        });
     }
     let label = label_of(file)?;
     Ok(Seen::File { bytes, label })
@@ -109,7 +114,10 @@ impl DriveFiles {
     pub fn none() -> DriveFiles
         ensures { λ r. ⌜ isSome (r .failed) ≡ false ⌝ }
     {
-        DriveFiles { at: [None, None, None, None, None, None], failed: None }
+        DriveFiles {
+            at: [None, None, None, None, None, None],
+            failed: None,
+        }
     }
 
     // Has the power gone off.

@@ -1,6 +1,6 @@
 // The house: reads commands from standard input, and answers each with one line, over six drive files in the current folder.
-mod files;
 mod desk;
+mod files;
 
 use console::Input;
 use console::Text;

@@ -1,8 +1,8 @@
 // Lines of text to commands, and what comes of them to lines of text.
-use asks::write_time;
 use crate::rehearsal::Came;
 use crate::rehearsal::Fault;
 use crate::rehearsal::Rehearsal;
+use asks::write_time;
 use console::Input;
 use console::push_hex;
 use console::understand;
@@ -11,7 +11,8 @@ use script::read_order;
 use std::alloc::AllocError;
 use std::io::Write;
 
-const HELP: &[u8] = b"help: drives N, longest N, in HEX, time T, mend, mend whole, status, lose I, replace I, asked, cut N SEED, cut N bits B\n";
+const HELP: &[u8] =
+    b"help: drives N, longest N, in HEX, time T, mend, mend whole, status, lose I, replace I, asked, cut N SEED, cut N bits B\n";
 
 fn say(out: &mut Vec<u8>, text: &[u8]) -> Result<(), AllocError> {
     out.extend_from_slice(text)
@@ -26,7 +27,10 @@ fn say_number(out: &mut Vec<u8>, n: u64) -> Result<(), AllocError> {
 fn say_done(out: &mut Vec<u8>, done: Result<(), Fault>) -> Result<(), AllocError> {
     match done {
         Ok(()) => Ok(()),
-        Err(Fault::Begun) => say(out, b"refused: the drives were asked for something before\n"),
+        Err(Fault::Begun) => say(
+            out,
+            b"refused: the drives were asked for something before\n",
+        ),
         Err(Fault::OutOfRange) => say(out, b"refused: the number is out of range\n"),
         Err(Fault::TwoWeak) => say(out, b"refused: two other drives are weak\n"),
         Err(Fault::NotGone) => say(out, b"refused: the drive is not gone\n"),
@@ -100,7 +104,14 @@ fn say_status(r: &Rehearsal, out: &mut Vec<u8>) -> Result<(), AllocError> {
     say_drives(out, &r.disks.gone())?;
     say(out, b"; weak:")?;
     say_drives(out, &r.weak.drives)?;
-    say(out, if r.is_open() { b"; the house is open\n" } else { b"; the house is shut\n" })
+    say(
+        out,
+        if r.is_open() {
+            b"; the house is open\n"
+        } else {
+            b"; the house is shut\n"
+        },
+    )
 }
 
 // What both programs are told.

@@ -22,7 +22,9 @@ pub fn lent() -> Lent {
 
 impl House {
     pub fn new(longest: usize) -> House {
-        House { front: closed_house(longest) }
+        House {
+            front: closed_house(longest),
+        }
     }
 
     pub fn open<D: Disks>(&mut self, lent: &mut Lent, disks: &mut D, size: u64) {
@@ -30,7 +32,13 @@ impl House {
     }
 
     // Answers a line at the front of `out`, and says how long the answer is.
-    pub fn call<D: Disks>(&mut self, lent: &mut Lent, disks: &mut D, line: &[u8], out: &mut [u8]) -> usize {
+    pub fn call<D: Disks>(
+        &mut self,
+        lent: &mut Lent,
+        disks: &mut D,
+        line: &[u8],
+        out: &mut [u8],
+    ) -> usize {
         answer_line(&mut self.front, lent, disks, line, out).unwrap_or(0)
     }
 

@@ -47,6 +47,7 @@ module _ (longest : ℕ) where
   within = layers-stay-within Call Reply (List ℕ) (List ℕ) recorded (clock longest) recorded-within
 
 pub time-stands : TimeStands
-time-stands longest =
-    (code-keeps {S = same longest} (λ size lo hi. tied longest size) (house onlyTime longest) (keeps longest) 1000 (omega arith),
-      code-within {S = same longest} (λ size lo hi. tied longest size) (within longest) 1000 (omega arith))
+time-stands longest = (
+  code-keeps {S = same longest} (λ size lo hi. tied longest size) (house onlyTime longest) (keeps longest) 1000 (omega arith),
+  code-within {S = same longest} (λ size lo hi. tied longest size) (within longest) 1000 (omega arith),
+)

@@ -16,11 +16,13 @@ returns g c =
     let model = g .D·Disks .model in
     record {
       ran = λ k.
-        let (k', p) = c .call-told .ensures .code k in
-        (k', record {
-          bytes = toldBytes (c .call-told .result);
-          written = c .write-told .ensures;
-          ran = line-leaves (g .L·Stepper .code) (c .args .self .now .longest) 1000 (c .args .line .now) (c .hear-asked .result) h h' (c .call-told .result) (model (c .args .disks .now)) (model (c .call-told .last .d)) (c .hear-asked .ensures) p;
-        });
+          let (k', p) = c .call-told .ensures .code k in (
+            k',
+            record {
+              bytes = toldBytes (c .call-told .result);
+              written = c .write-told .ensures;
+              ran = line-leaves (g .L·Stepper .code) (c .args .self .now .longest) 1000 (c .args .line .now) (c .hear-asked .result) h h' (c .call-told .result) (model (c .args .disks .now)) (model (c .call-told .last .d)) (c .hear-asked .ensures) p;
+            },
+          );
       same = refl;
     }
