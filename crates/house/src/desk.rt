@@ -58,7 +58,7 @@ impl Desk {
     }
 
     // Opens the files anew: a drive may have been removed or replaced since the last command.
-    fn look(&mut self, rt: &LibcRuntime) -> io::Result<()> {
+    fn look(&mut self, rt: &LibcRuntime) {
         let seen = self.files.open_all(rt);
         let before = self.drives;
         self.drives.look(&seen);
@@ -67,16 +67,15 @@ impl Desk {
             let odd = matches!(now, Drive::Odd | Drive::Foreign | Drive::Stale);
             if odd && now != before.state(i) {
                 let what = word(now);
-                eprintln!(rt, "drive{i} is {what}: it is left alone")?;
+                let _ = eprintln!(rt, "drive{i} is {what}: it is left alone");
             }
         }
         self.files.keep(&self.drives);
-        Ok(())
     }
 
     // Looks, and comes up if need be. Says whether the house is ready to be asked; if not, what is said instead is in `out`.
     fn ready(&mut self, rt: &LibcRuntime, out: &mut Vec<u8>) -> io::Result<bool> {
-        self.look(rt)?;
+        self.look(rt);
         let there = self.drives.count_there();
         if there < FEWEST {
             let words = format!(rt.alloc(), "closed {there}")?;
@@ -98,14 +97,17 @@ impl Desk {
             return Ok(true);
         }
         self.up = false;
-        if let Some(i) = self.files.put_away(rt, self.drives.count_there())? {
-            eprintln!(
+        // nobody may be reading the messages, and the house goes on all the same
+        let _ = match self.files.put_away(rt, self.drives.count_there()) {
+            Some(i) => eprintln!(
                 rt,
                 "drive{i} failed: it is lost, and its file is now drive{i}.lost"
-            )?;
-        } else {
-            eprintln!(rt, "too many drives failed at once: none is taken for lost")?;
-        }
+            ),
+            None => eprintln!(
+                rt,
+                "a drive failed, and none is taken for lost: too many fail, or its file can't be put away"
+            ),
+        };
         out.clear();
         self.say("cut", out)?;
         Ok(false)
@@ -151,7 +153,7 @@ impl Desk {
     }
 
     pub fn status(&mut self, rt: &LibcRuntime, out: &mut Vec<u8>) -> io::Result<()> {
-        self.look(rt)?;
+        self.look(rt);
         let sectors = self.drives.sectors;
         let words = format!(rt.alloc(), "status: {sectors} sectors")?;
         out.extend_from_slice(words.as_bytes())?;

@@ -177,16 +177,18 @@ impl DriveFiles {
 
     // The drive that failed is lost: its file is put out of the way, so that it can't come back with what is old.
     // Where more than two would be lost, with those that are gone, none is: it is the disk under them that is full or broken.
-    pub fn put_away(&mut self, rt: &LibcRuntime, there: usize) -> io::Result<Option<u8>> {
+    pub fn put_away(&mut self, rt: &LibcRuntime, there: usize) -> Option<u8> {
         let Some((drive, what)) = self.failed else {
-            return Ok(None);
+            return None;
         };
         let i = drive as usize;
         if i >= 6 || self.count_failing(what).max(1) > there.saturating_sub(4) {
-            return Ok(None);
+            return None;
         }
-        fs::rename(rt, NAMES[i], LOST[i])?;
-        Ok(Some(drive))
+        match fs::rename(rt, NAMES[i], LOST[i]) {
+            Ok(()) => Some(drive),
+            Err(_) => None,
+        }
     }
 }
 
