@@ -1,4 +1,6 @@
 // The answers on a line. Their bytes and entries are parts of a buffer: nothing is copied but to the line.
+#![tactic(auto)]
+
 ghost use Rattle.std.specs.Prelude.{◌≡◌, length, Some, None};
 ghost use Rattle.fills.specs.Fills.{Added, Wrote};
 ghost use Rattle.lines.specs.Calls.{are_many, at_end, line_of};

@@ -1,4 +1,6 @@
 // Calls are written as lines, by whoever asks.
+#![tactic(auto)]
+
 ghost use Rattle.std.specs.Prelude.{◌≡◌, true, ◌&&◌, [], ◌∷◌};
 ghost use Rattle.meaning.specs.Rooms.{Tick};
 ghost use Rattle.asks.specs.Short.{changes, fits, of_room, reads, uploads};

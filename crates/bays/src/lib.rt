@@ -1,4 +1,6 @@
 // The six bays of a house: which files count as drives, and how each drive stands.
+#![tactic(auto)]
+
 ghost use Rattle.std.specs.Prelude.{◌≡◌, ◌/◌, Bool, if◌then◌else◌, nat_lt, slice_index_or};
 ghost use Rattle.bays.specs.Bays.{fits, votes, better, elected, admitted, Admits, is_there, count_of, sectors_of, settled, unseen};
 

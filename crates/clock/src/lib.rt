@@ -1,4 +1,6 @@
 // Telling the time: the first call that is built. It is kept by whatever keeps a payload.
+#![tactic(auto)]
+
 ghost use Rattle.std.specs.Prelude.{◌≡◌, None};
 ghost use Rattle.clock.specs.Clock.{clock_code, spoken, clock_same, turn_in};
 ghost use Rattle.clock.specs.Spelled.{ClockKeeps};

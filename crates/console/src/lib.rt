@@ -1,4 +1,6 @@
 // What a person or a program types: lines of text to commands, hexadecimal both ways.
+#![tactic(auto)]
+
 ghost use Rattle.std.specs.Prelude.{◌≡◌, ℕ, ◌+◌, ◌-◌, ◌*◌, ◌/◌, ◌%◌, ◌^◌, ◌<◌, ◌≤◌, min, Bool, true, false, cond, List, ◌++◌, length};
 ghost use Rattle.console.specs.Commands.{begins_with, is_word, said_of, says, Trims, Means};
 

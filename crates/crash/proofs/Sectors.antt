@@ -90,21 +90,21 @@ module _ {s : ℕ} {C : Sight → Type 0} where
   pub holds_synced : (x : Slot) → C (sight s x) → Holds s C (synced_one x)
   unfolding synced_one
   holds_synced gone h = away h
-  holds_synced (there d) h = held h (λ b m. absurd (Memᴰ.not_nil m))
+  holds_synced (there d) h = held h (λ b m. absurd (Memᴰ.not-nil m))
 
   pub holds_sync : {x : Slot} → Holds s C x → Holds s C (synced_one x)
   holds_sync {x} h = holds_synced x (holds_sight h)
 
   pub holds_cut : {x y : Slot} → CutSlot x y → Holds s C x → Holds s C y
   holds_cut nothing (away h) = away h
-  holds_cut (cut d e k z) (held h w) = held (go (k s)) (λ b m. absurd (Memᴰ.not_nil (subst (λ (y : List (List ℕ)). Memᴰ b y) (z s) m)))
+  holds_cut (cut d e k z) (held h w) = held (go (k s)) (λ b m. absurd (Memᴰ.not-nil (subst (λ (y : List (List ℕ)). Memᴰ b y) (z s) m)))
     where
       go : (e.kept s ≡ d.kept s) ⊎ Memᴰ (e.kept s) (d.since s) → C (sees (e.kept s))
       go (inl p) = subst⁻¹ (λ (y : List ℕ). C (sees y)) p h
       go (inr m) = w (e.kept s) m
 
   pub holds_blank : C (sees (zeros 512)) → Holds s C (there blank_drive)
-  holds_blank c = held c (λ b m. absurd (Memᴰ.not_nil m))
+  holds_blank c = held c (λ b m. absurd (Memᴰ.not-nil m))
 
 -- CALM: all that a sector may hold is what it shows
 
@@ -128,7 +128,7 @@ calm_write_off {s} {t} b x n h = subst⁻¹ (λ (y : Sight). Holds s (λ c. c �
 pub calm_cut : (s : ℕ) {x y : Slot} → CutSlot x y → Calm s y
 unfolding latest
 calm_cut s nothing = away refl
-calm_cut s (cut d e k z) = held (ap (λ bs. sees (latest (e.kept s) bs)) (sym (z s))) (λ b m. absurd (Memᴰ.not_nil (subst (λ (y : List (List ℕ)). Memᴰ b y) (z s) m)))
+calm_cut s (cut d e k z) = held (ap (λ bs. sees (latest (e.kept s) bs)) (sym (z s))) (λ b m. absurd (Memᴰ.not-nil (subst (λ (y : List (List ℕ)). Memᴰ b y) (z s) m)))
 
 pub sight_cut : {s : ℕ} {x y : Slot} → CutSlot x y → Calm s x → sight s y ≡ sight s x
 sight_cut c h = holds_sight (holds_cut c h)

@@ -68,16 +68,16 @@ few_after false d ws l = l
 
 -- of any three drives one is not weak
 pub not_three : (ws : List ℕ) → Few ws → (i j k : ℕ) → i < j → j < k → Weak ws i → Weak ws j → Weak ws k → ⊥
-not_three [] l i j k a b x y z = Memᴰ.not_nil x
+not_three [] l i j k a b x y z = Memᴰ.not-nil x
 not_three (v ∷ []) l i j k a b x y z = omega (arith, one x, one y)
   where
     one : {m : ℕ} → Weak (v ∷ []) m → m ≡ v
     one (Memᴰ.head p) = p
-    one (Memᴰ.tail m) = absurd (Memᴰ.not_nil m)
+    one (Memᴰ.tail m) = absurd (Memᴰ.not-nil m)
 not_three (v ∷ w ∷ []) l i j k a b x y z = omega (arith, two x, two y, two z)
   where
     two : {m : ℕ} → Weak (v ∷ w ∷ []) m → (m ≡ v) ⊎ (m ≡ w)
     two (Memᴰ.head p) = inl p
     two (Memᴰ.tail (Memᴰ.head p)) = inr p
-    two (Memᴰ.tail (Memᴰ.tail m)) = absurd (Memᴰ.not_nil m)
+    two (Memᴰ.tail (Memᴰ.tail m)) = absurd (Memᴰ.not-nil m)
 not_three (u ∷ v ∷ w ∷ ws) l i j k a b x y z = omega arith

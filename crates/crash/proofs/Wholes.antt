@@ -47,18 +47,18 @@ whole_write s b l (sectors {x = d} h k) = sectors h (λ t c m. go t (eqb t s) c 
 pub whole_sync : {x : Slot} → WholeSlot x → WholeSlot (synced_one x)
 unfolding synced_one
 whole_sync no_drive = no_drive
-whole_sync (sectors {x = d} h k) = sectors (λ s. latest_of IsSector (d.kept s) (d.since s) (h s) (k s)) (λ s b m. absurd (Memᴰ.not_nil m))
+whole_sync (sectors {x = d} h k) = sectors (λ s. latest_of IsSector (d.kept s) (d.since s) (h s) (k s)) (λ s b m. absurd (Memᴰ.not-nil m))
 
 whole_cut : {x y : Slot} → CutSlot x y → WholeSlot x → WholeSlot y
 whole_cut nothing w = no_drive
-whole_cut (cut d e k z) (sectors h w) = sectors (λ s. go s (k s)) (λ s b m. absurd (Memᴰ.not_nil (subst (λ (y : List (List ℕ)). Memᴰ b y) (z s) m)))
+whole_cut (cut d e k z) (sectors h w) = sectors (λ s. go s (k s)) (λ s b m. absurd (Memᴰ.not-nil (subst (λ (y : List (List ℕ)). Memᴰ b y) (z s) m)))
   where
     go : (s : ℕ) → (e.kept s ≡ d.kept s) ⊎ Memᴰ (e.kept s) (d.since s) → IsSector (e.kept s)
     go s (inl p) = subst⁻¹ IsSector p (h s)
     go s (inr m) = w s (e.kept s) m
 
 pub whole_blank : WholeSlot (there blank_drive)
-whole_blank = sectors (λ s. zeros_sector) (λ s b m. absurd (Memᴰ.not_nil m))
+whole_blank = sectors (λ s. zeros_sector) (λ s b m. absurd (Memᴰ.not-nil m))
 
 pub whole_put : (i : ℕ) (x : Slot) {d : Drives} → WholeSlot x → Whole d → Whole (put i x d)
 whole_put i x {d} h w j = put_elim WholeSlot i j x d (λ e. h) (λ n. w j)

@@ -1,4 +1,6 @@
 // What a machine on six drives is shown by: an invariant that every step keeps, wherever the power fails.
+#![tactic(auto)]
+
 ghost use Rattle.crash.specs.Refinement.{Refinement, KeepsAt};
 
 // A machine, its judge, and an invariant for which each step's obligation holds.

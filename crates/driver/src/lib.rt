@@ -1,4 +1,6 @@
 // The one loop that runs a machine in code on drives, be they files or simulated.
+#![tactic(auto)]
+
 ghost use Rattle.std.specs.Prelude.{◌≡◌, ℕ, ◌≤◌, List, [], take, if◌then◌else◌};
 ghost use Rattle.drives.specs.Drives.{Drives, shown, put, written_to, synced_one, smallest, largest};
 ghost use Rattle.drives.specs.Machines.{Machine};

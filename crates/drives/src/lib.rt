@@ -1,4 +1,6 @@
 // Six drives, machines and layers on them: the theorems by which a system is proved layer by layer.
+#![tactic(auto)]
+
 ghost use Rattle.drives.specs.Layers.{Setting, ComposeAt, WithinAt};
 ghost use Rattle.drives.specs.Simulation.{Showing, KeepsAt};
 

@@ -1,4 +1,6 @@
 // The smallest machine and layer, to copy from: a machine that copies one sector of drive 0 to drive 1, and a layer over it that copies two.
+#![tactic(auto)]
+
 ghost use Rattle.std.specs.Prelude.{◌≡◌};
 ghost use Rattle.echo.specs.Echoes.{echo_code, echoes, echo_same};
 ghost use Rattle.echo.specs.Twices.{twice_code, twices, twice_same};

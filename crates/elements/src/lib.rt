@@ -1,5 +1,7 @@
 // Pieces of field elements: the two parity pieces of four, and sums of four by constant coefficients. Both work on vectors, and on single bytes at
 // a piece's end.
+#![tactic(auto)]
+
 ghost use Rattle.std.specs.Prelude.{◌≡◌, [], ◌∷◌, length, if◌then◌else◌};
 ghost use Rattle.elements.specs.Accepted.{all_of};
 ghost use Rattle.field.specs.Stripe.{parity_p, parity_q};

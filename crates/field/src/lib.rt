@@ -1,4 +1,6 @@
 // The theorems on stripes of six pieces, any four of which give all back. `pieces` has the code.
+#![tactic(auto)]
+
 ghost use Rattle.field.specs.Code.{AnyFour};
 ghost use Rattle.field.specs.Stripe.{four_of_six, RebuildsSame, ZerosStay};
 

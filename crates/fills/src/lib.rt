@@ -1,4 +1,6 @@
 // Lines are written field by field, once it is known that all of them fit.
+#![tactic(auto)]
+
 ghost use Rattle.std.specs.Prelude.{◌≡◌, ◌+◌, ◌≤◌, true, length, if◌then◌else◌, Some, None};
 ghost use Rattle.meaning.specs.Lists.{every};
 ghost use Rattle.lines.specs.Calls.{expected, line_of};

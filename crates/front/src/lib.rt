@@ -1,4 +1,6 @@
 // The front of a house: lines of bytes come in, and go out. It is the clock over whatever keeps a payload.
+#![tactic(auto)]
+
 ghost use Rattle.std.specs.Prelude.{◌≡◌, ℕ, true};
 ghost use Rattle.drives.specs.Drives.{Drives};
 ghost use Rattle.steps.specs.Steps.{Held, machine_of};

@@ -1,4 +1,6 @@
 // The house: reads commands from standard input, and answers each with one line, over six drive files in the current folder.
+#![tactic(auto)]
+
 mod desk;
 mod files;
 

@@ -1,4 +1,6 @@
 // The label of a drive: its sector 0, read and written. The bytes are laid out in docs/LAYOUT.md.
+#![tactic(auto)]
+
 ghost use Rattle.std.specs.Prelude.{◌≡◌, ◌≤◌, length};
 ghost use Rattle.std.specs.Str.{bytes_eq};
 ghost use Rattle.drives.specs.Drives.{zeros};

@@ -1,4 +1,6 @@
 // The laws of lines: each function stands for the theorem that its contract states.
+#![tactic(auto)]
+
 ghost use Rattle.line_laws.specs.Stated.{AnswersAreRead, AnswersWereWritten, CallsAreRead, CallsWereWritten};
 
 pub fn calls_are_read() -> u8

@@ -1,4 +1,6 @@
 // Calls and answers as bytes.
+#![tactic(auto)]
+
 pub mod calls;
 pub mod fields;
 pub mod order;

@@ -79,7 +79,7 @@ within_from s n r q next e w = record { room = n; from = λ x u m i. each x u i 
 
 pub uploads_from : (s : State) {c : Call} {o : Out} → Step s c o → UploadSpot s o.state
 uploads_from s (stands reply silent) = record { room = []; from = kept_upload }
-uploads_from s (made n keeps name free few) = record { room = []; from = λ q u m i. elim (Memᴰ.append_cases s.rooms m) [ inl j ↦ kept_upload q u j i | inr j ↦ absurd (Memᴰ.not_nil (rw (Memᴰ.eq_of_singleton j) at i)) ] }
+uploads_from s (made n keeps name free few) = record { room = []; from = λ q u m i. elim (Memᴰ.append_cases s.rooms m) [ inl j ↦ kept_upload q u j i | inr j ↦ absurd (Memᴰ.not-nil (rw (Memᴰ.eq_of_singleton j) at i)) ] }
 uploads_from s (dropped n r e none) = record { room = []; from = λ q u m i. kept_upload q u (kept_was (λ (x : Room). not (is_room n x)) s.rooms q m).there i }
 uploads_from s (told t p) = record { room = []; from = λ q u m i. let (x, there, e) = Memᴰ.of_map (aged_room (later t s.now)) s.rooms m in rw (← e) (was_there x u there (rw (← e) at i) refl refl) }
 uploads_from s (within n r q e left w) = within_from s n r q _ e w

@@ -81,7 +81,7 @@ module _ {now next : ℕ} (r : Room) (ok : RoomOk now next r) (k : Name) where
   key_at v m = go (found_or_none (is_object k) r.objects)
     where
       go : FoundOrNone (is_object k) r.objects → T (name_ok k)
-      go (inl e) = absurd (Memᴰ.not_nil (rw e at m))
+      go (inl e) = absurd (Memᴰ.not-nil (rw e at m))
       go (inr h) = let f = found (is_object k) r.objects h.0 [] h.1 in rw (same_eq k h.0.key f.passes) (ok.objects_ok h.0 f.there).key_fits
 
 -- ONE ROOM
@@ -246,9 +246,9 @@ made_house s n keeps name free few h =
           name_fits = name;
           few_rules = omega arith;
           rules_fit = tt;
-          uploads_ok = record { few = omega arith; each_fits = λ u m. absurd (Memᴰ.not_nil m); rise = tt; parts_rise = λ u m. absurd (Memᴰ.not_nil m) };
+          uploads_ok = record { few = omega arith; each_fits = λ u m. absurd (Memᴰ.not-nil m); rise = tt; parts_rise = λ u m. absurd (Memᴰ.not-nil m) };
           keys_rise = tt;
-          objects_ok = λ o m. absurd (Memᴰ.not_nil m);
+          objects_ok = λ o m. absurd (Memᴰ.not-nil m);
         }
 
 dropped_house : (s : State) (n : Name) → House s → House (record { now = s.now; next = s.next; rooms = without n s.rooms })
@@ -356,9 +356,9 @@ good_run g (fell run) = good_run g run
 good_blank : Good blank
 unfolding find
 good_blank =
-    good_house (record { few_rooms = omega arith; now_small = tt; next_from_one = omega arith; next_bounded = omega arith; rooms_apart = tt; rooms_ok = λ r m. absurd (Memᴰ.not_nil m) })
-    (λ n m k l v w i j. absurd (Memᴰ.not_nil i))
-    (record { one_room = λ r q u w m. absurd (Memᴰ.not_nil m); no_version = λ r u n k v m. absurd (Memᴰ.not_nil m) })
+    good_house (record { few_rooms = omega arith; now_small = tt; next_from_one = omega arith; next_bounded = omega arith; rooms_apart = tt; rooms_ok = λ r m. absurd (Memᴰ.not-nil m) })
+    (λ n m k l v w i j. absurd (Memᴰ.not-nil i))
+    (record { one_room = λ r q u w m. absurd (Memᴰ.not-nil m); no_version = λ r u n k v m. absurd (Memᴰ.not-nil m) })
 
 pub good : {s : State} → Run blank s → Good s
 good run = good_run good_blank run

@@ -48,7 +48,7 @@ module _ {A : Type 0} (f : A → Bool) where
 
   pub not_some : (xs : List A) → some f xs ≡ false → (x : A) → Memᴰ x xs → f x ≡ false
   unfolding some
-  not_some [] e x m = absurd (Memᴰ.not_nil m)
+  not_some [] e x m = absurd (Memᴰ.not-nil m)
   not_some (y ∷ xs) e x m = go (not_some xs) (Memᴰ.cases_cons m)
     where
       go : (some f xs ≡ false → (z : A) → Memᴰ z xs → f z ≡ false) → (x ≡ y) ⊎ Memᴰ x xs → f x ≡ false
@@ -57,7 +57,7 @@ module _ {A : Type 0} (f : A → Bool) where
 
   pub kept_was : (xs : List A) (x : A) → Memᴰ x (keep f xs) → Found f xs x
   unfolding keep
-  kept_was [] x m = absurd (Memᴰ.not_nil m)
+  kept_was [] x m = absurd (Memᴰ.not-nil m)
   kept_was (y ∷ xs) x m = go (f y) refl (kept_was xs x)
     where
       deeper : Found f xs x → Found f (y ∷ xs) x
@@ -221,7 +221,7 @@ module _ {A : Type 0} (f : A → Bool) where
       go false p (inr t) = inr (rw p t.0, t.1, rw p t.2)
 
 pub pairs_pushed : {A : Type 0} (R : A → A → Type 0) (y : A) (xs : List A) → Pairs R xs → ((x : A) → Memᴰ x xs → R x y) → Pairs R (xs ++ (y ∷ []))
-pairs_pushed R y [] p h = (λ z m. absurd (Memᴰ.not_nil m), tt)
+pairs_pushed R y [] p h = (λ z m. absurd (Memᴰ.not-nil m), tt)
 pairs_pushed {A} R y (x ∷ xs) p h = (λ z m. last z (Memᴰ.append_cases xs m), pairs_pushed R y xs p.1 (λ z m. h z (Memᴰ.tail m)))
   where
     last : (z : A) → Memᴰ z xs ⊎ Memᴰ z (y ∷ []) → R x z
@@ -230,7 +230,7 @@ pairs_pushed {A} R y (x ∷ xs) p h = (λ z m. last z (Memᴰ.append_cases xs m)
 
 -- where of each two the first stands so to the second and not the other way round, two that are there are one, or stand so one way
 pub pairs_of : {A : Type 0} (R : A → A → Type 0) (xs : List A) → Pairs R xs → (x y : A) → Memᴰ x xs → Memᴰ y xs → (x ≡ y) ⊎ (R x y ⊎ R y x)
-pairs_of R [] p x y m n = absurd (Memᴰ.not_nil m)
+pairs_of R [] p x y m n = absurd (Memᴰ.not-nil m)
 pairs_of {A} R (z ∷ xs) p x y m n = join (pairs_of R xs p.1 x y) (Memᴰ.cases_cons m) (Memᴰ.cases_cons n)
   where
     join : (Memᴰ x xs → Memᴰ y xs → (x ≡ y) ⊎ (R x y ⊎ R y x)) → (x ≡ z) ⊎ Memᴰ x xs → (y ≡ z) ⊎ Memᴰ y xs → (x ≡ y) ⊎ (R x y ⊎ R y x)

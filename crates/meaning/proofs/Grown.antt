@@ -102,7 +102,7 @@ record Sound (r : Room) : Type 0 where
 plain_at : (r : Room) → Sound r → (k : Name) (v : Version) → Memᴰ v (at' k r) → Plain v
 unfolding versions_of
 plain_at r p k =
-    at_find (is_object k) (λ os. (v : Version) → Memᴰ v (versions_of os) → Plain v) r.objects (λ _ v m. absurd (Memᴰ.not_nil m))
+    at_find (is_object k) (λ os. (v : Version) → Memᴰ v (versions_of os) → Plain v) r.objects (λ _ v m. absurd (Memᴰ.not-nil m))
     (λ o e v m. p.numbered o (found (is_object k) r.objects o [] e).there v m)
 
 rooms_changed : (n : Name) (r q : Room) (rs : List Room) → find (is_room n) rs ≡ r ∷ [] → rooms_weight (change (is_room n) (λ _. q) rs) + room_weight r ≡ rooms_weight rs + room_weight q

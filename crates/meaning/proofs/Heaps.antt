@@ -28,7 +28,7 @@ one_version {keeps} vs h v w i j one e = go (pairs_of (Over keeps) vs h.stacked 
     go (inr (inr o)) = absurd (omega (arith, o.higher (omega arith)))
 
 pub heap_none : (now next : ℕ) (keeps : Bool) → Heap now next keeps []
-heap_none now next keeps = record { few = omega arith; rules_mark = λ e. absurd (omega arith); each_fits = λ v m. absurd (Memᴰ.not_nil m); stacked = tt }
+heap_none now next keeps = record { few = omega arith; rules_mark = λ e. absurd (omega arith); each_fits = λ v m. absurd (Memᴰ.not-nil m); stacked = tt }
 
 pub version_later : {now next now' next' : ℕ} {v : Version} → now ≤ now' → next ≤ next' → VersionFits now next v → VersionFits now' next' v
 version_later p q f = record { num_below = omega (arith, f.num_below); numbered = f.numbered; came = omega (arith, f.came); hold_small = f.hold_small; mark_not_held = f.mark_not_held; of_bytes = f.of_bytes }
@@ -275,7 +275,7 @@ aged_was_or_mark now keeps (x ∷ xs) (v ∷ vs) w m = untidied (tidy_cases (lef
     under_mark ws below (inr m) = below m
 
     hidden : (ws : List Version) → (Memᴰ w ws → Was) → Memᴰ w (covered now ws) → Was
-    hidden [] below m = absurd (Memᴰ.not_nil m)
+    hidden [] below m = absurd (Memᴰ.not-nil m)
     hidden (u ∷ ws) below m = under_mark (u ∷ ws) below (Memᴰ.cases_cons m)
 
     whole : (b k : Bool) → Memᴰ w (left b k) → Was
@@ -284,5 +284,5 @@ aged_was_or_mark now keeps (x ∷ xs) (v ∷ vs) w m = untidied (tidy_cases (lef
     whole false k m = latest (Memᴰ.cases_cons m)
 
     untidied : (tidy (left goes keeps) ≡ []) ⊎ (tidy (left goes keeps) ≡ left goes keeps) → Was
-    untidied (inl e) = absurd (Memᴰ.not_nil (subst (Memᴰ w) e m))
+    untidied (inl e) = absurd (Memᴰ.not-nil (subst (Memᴰ w) e m))
     untidied (inr e) = whole goes keeps (subst (Memᴰ w) e m)

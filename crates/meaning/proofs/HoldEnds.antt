@@ -7,12 +7,12 @@ use Rattle.std.proofs.lemmas.Bool.Decides.{nat_tests}
 use Rattle.meaning.specs.Lists.{Name, find}
 use Rattle.meaning.specs.Rooms.{Version, Room, State, blank, Call, Remove, Reply, No, Yes, Out}
 use Rattle.meaning.specs.Does.{no, acts, is_tick, small, does, in_room_or, removes_one, is_room, is_num, is_held, at'}
-use Rattle.meaning.specs.Laws.{Run, versions_in, HoldEnds}
+use Rattle.meaning.specs.Laws.{Run, versions_in, keeps_of, HoldEnds}
 use Rattle.meaning.proofs.Good.{Good}
 use Rattle.meaning.proofs.Finds.{FoundOrNone, Found, found, found_or_none}
 use Rattle.meaning.proofs.Heaps.{Heap, one_version}
 use Rattle.meaning.proofs.Moves.{versions_found}
-use Rattle.meaning.proofs.Bounds.{heap_in, good_run}
+use Rattle.meaning.proofs.Bounds.{heap_in, good, good_run}
 
 -- a refusal as held isn't for want of a time or of numbers
 acted : (b c : Bool) (s : State) (o : Out) → (cond b (no 10 s) (cond c (no 8 s) o)).reply ≡ No 6 → o.reply ≡ No 6
@@ -42,10 +42,10 @@ hold_ends s run n k v m one e = in-room (found_or_none (is_room n) s.rooms) (act
     of_key r e (inr h) i =
         let hit = found (is_num v.num) (at' k r) h.0 [] h.1 in
         let here : Memᴰ v (at' k r) = rw (versions_found n k s r e) at m in
-        let heap : Heap s.now s.next r.keeps (at' k r) = rw (versions_found n k s r e) at (heap_in s g n k) in
+        let heap : Heap s.now s.next (keeps_of n s) (at' k r) = rw (versions_found n k s r e) at (heap_in s g n k) in
         let same : v ≡ h.0 = one_version (at' k r) heap v h.0 here hit.there one (eqb-true v.num h.0.num hit.passes) in
         before r h.0 (sym same) (is_held s.now h.0) refl (rw h.1 at i)
 
     in-room : FoundOrNone (is_room n) s.rooms → (acts (Remove n k v.num) s).reply ≡ No 6 → s.now < v.held
-    in-room (inl d) i = absurd (mathlib.Core.List.Memᴰ.not_nil (rw d at m))
+    in-room (inl d) i = absurd (mathlib.Core.List.Memᴰ.not-nil (rw d at m))
     in-room (inr h) i = of_key h.0 h.1 (found_or_none (is_num v.num) (at' k h.0)) (rw (h.1, numbered) at i)

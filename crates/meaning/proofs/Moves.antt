@@ -183,7 +183,7 @@ origin s room key n k (set r _ i j e h) w m = go h m
 
     go : {c : Call} {reply : Reply} {next : ℕ} {us : List Upload} {vs : List Version} → Sets s n r k c reply next us vs → Memᴰ w vs → Origin s room key n k w
     go (new b wr l) m = top b (Memᴰ.cases_cons m)
-    go (gone a b) m = absurd (Memᴰ.not_nil m)
+    go (gone a b) m = absurd (Memᴰ.not-nil m)
     go (fewer num v z d f) m = there w (kept_was (λ (u : Version). not (is_num v.num u)) (at' k r) w m).there (like_itself w)
     go (longer num until v t d f) m = held num until (changed_was (is_num num) (hold_to until) (at' k r) w m)
 origin s room key n k (ages t r _ e) w m = go (aged_was_or_mark (later t s.now) r.keeps (rule_for k r.rules) (at' k r) w m)

@@ -55,7 +55,7 @@ set_was k (v ∷ vs) (p ∷ os) o m = go (less k p.key) (less p.key k) refl refl
 pub set_pairs : (k : Name) (vs : List Version) (os : List Object) → Pairs Before os → Pairs Before (set_object k vs os)
 unfolding set_object
 set_pairs k [] os p = keep_pairs (λ (o : Object). not (is_object k o)) Before os p
-set_pairs k (v ∷ vs) [] p = (λ y m. absurd (Memᴰ.not_nil m), tt)
+set_pairs k (v ∷ vs) [] p = (λ y m. absurd (Memᴰ.not-nil m), tt)
 set_pairs k (v ∷ vs) (o ∷ os) p = go (less k o.key) (less o.key k) refl refl (set_pairs k (v ∷ vs) os p.1)
   where
     new : Object
@@ -119,7 +119,7 @@ module _ (now : ℕ) (r : Room) where
   pub aged_was : (os : List Object) (o : Object) → Memᴰ o (aged_objects now r os) →
       (p : Object) × Memᴰ p os × (o.key ≡ p.key) × (o.versions ≡ aged now r.keeps (rule_for p.key r.rules) p.versions) × ((v : Version) × (vs : List Version) × (o.versions ≡ v ∷ vs))
   unfolding aged_objects kept left
-  aged_was [] o m = absurd (Memᴰ.not_nil m)
+  aged_was [] o m = absurd (Memᴰ.not-nil m)
   aged_was (p ∷ os) o m = go (left p.key p.versions) refl (aged_was os o)
     where
       Was : List Object → Type 0

@@ -192,7 +192,7 @@ aged_alone now r k p =
     ∙ sym (found_aged now (room_alone k r) k (find (is_object k) r.objects) one)
   where
     one : Pairs Before (find (is_object k) r.objects)
-    one = at_find (is_object k) (Pairs Before) r.objects (λ _. tt) (λ o _. (λ q m. absurd (Memᴰ.not_nil m), tt))
+    one = at_find (is_object k) (Pairs Before) r.objects (λ _. tt) (λ o _. (λ q m. absurd (Memᴰ.not-nil m), tt))
 
 -- alone, the room is still the one of its name
 room_alone_lem : (s : State) (n k : Name) (r : Room) (q : List Room) → find (is_room n) s.rooms ≡ r ∷ q → find (is_room n) (alone n k s).rooms ≡ room_alone k r ∷ []

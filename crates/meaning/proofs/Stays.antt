@@ -31,7 +31,7 @@ OldGone now l w vs = (z : Version) × OnTopOf z w vs × T (due now l z.at) × (i
 
 old_stays : (now l : ℕ) (u : Version) (vs : List Version) (w : Version) → Memᴰ w vs → Memᴰ w (old_kept now l u.at vs) ⊎ OldGone now l w (u ∷ vs)
 unfolding old_kept
-old_stays now l u [] w m = absurd (Memᴰ.not_nil m)
+old_stays now l u [] w m = absurd (Memᴰ.not-nil m)
 old_stays now l u (v ∷ vs) w m = go (due now l u.at && not (is_held now v)) refl (old_stays now l v vs w) (Memᴰ.cases_cons m)
   where
     rest : List Version
@@ -62,7 +62,7 @@ tidy_stays (v ∷ []) w e m = go (is_removed v.body) refl (Memᴰ.cases_cons m)
     go : (b : Bool) → is_removed v.body ≡ b → (w ≡ v) ⊎ Memᴰ w [] → Memᴰ w (cond (is_removed v.body) [] (v ∷ []))
     go true d (inl i) = absurd (both_ways (is_removed v.body) (rw i at e) d)
     go false d (inl i) = rw d (Memᴰ.head i)
-    go b d (inr m) = absurd (Memᴰ.not_nil m)
+    go b d (inr m) = absurd (Memᴰ.not-nil m)
 tidy_stays (v ∷ u ∷ vs) w e m = m
 
 -- what a mark covers is there
@@ -74,7 +74,7 @@ covered_stays now (v ∷ vs) w m = Memᴰ.tail m
 aged_stays : (now : ℕ) (keeps : Bool) (x : Rule) (vs : List Version) (w : Version) → is_removed w.body ≡ false → Memᴰ w vs →
     Memᴰ w (aged now keeps (x ∷ []) vs) ⊎ (DueBy now keeps x w vs × (is_held now w ≡ false))
 unfolding aged
-aged_stays now keeps x [] w bytes m = absurd (Memᴰ.not_nil m)
+aged_stays now keeps x [] w bytes m = absurd (Memᴰ.not-nil m)
 aged_stays now keeps x (v ∷ vs) w bytes m = at_place (Memᴰ.cases_cons m)
   where
     old : List Version

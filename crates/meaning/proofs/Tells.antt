@@ -54,7 +54,7 @@ uploads_below : (s : State) → Good s → (n : Name) (u : Upload) → Memᴰ u 
 uploads_below s g n u m = go (found_or_none (is_room n) s.rooms)
   where
     go : FoundOrNone (is_room n) s.rooms → u.num < s.next
-    go (inl e) = absurd (Memᴰ.not_nil (rw e at m))
+    go (inl e) = absurd (Memᴰ.not-nil (rw e at m))
     go (inr h) = (((house g).rooms_ok h.0 (found (is_room n) s.rooms h.0 [] h.1).there).uploads_ok.each_fits u (rw h.1 at m)).num_below
 
 pub numbers_rise : NumbersRise

@@ -47,7 +47,7 @@ ups_begun {next} k us p ok l h =
     new = record { num = next; key = k; parts = [] }
 
     fits : UploadFits (next + 1) new
-    fits = record { key_fits = ok; from_one = p; num_below = omega arith; few = omega arith; each_fits = λ x m. absurd (Memᴰ.not_nil m) }
+    fits = record { key_fits = ok; from_one = p; num_below = omega arith; few = omega arith; each_fits = λ x m. absurd (Memᴰ.not-nil m) }
 
 -- PARTS
 
@@ -77,7 +77,7 @@ part_was p bs (x ∷ xs) y m = go (ltb p x.place) (eqb p x.place) refl refl (par
 
 part_pairs : (p : ℕ) (bs : List ℕ) (xs : List Part) → Pairs Earlier xs → Pairs Earlier (set_part p bs xs)
 unfolding set_part
-part_pairs p bs [] h = (λ y m. absurd (Memᴰ.not_nil m), tt)
+part_pairs p bs [] h = (λ y m. absurd (Memᴰ.not-nil m), tt)
 part_pairs p bs (x ∷ xs) h = go (ltb p x.place) (eqb p x.place) refl refl (part_pairs p bs xs h.1)
   where
     front : p < x.place → (y : Part) → (y ≡ x) ⊎ Memᴰ y xs → p < y.place

@@ -1,4 +1,6 @@
 // The laws of the meaning. Each function only carries its theorem.
+#![tactic(auto)]
+
 ghost use Rattle.meaning.specs.Examples.{ExamplesPlay};
 ghost use Rattle.meaning.specs.Laws.{NumbersTell, Stays, HeldStays, HoldEnds, ListExact, NumbersRise, RefusalsChangeNothing, WeightGrows, FullOnly, RulesAlone, SameTimeAgain, StaysInBounds};
 

@@ -1,4 +1,6 @@
 // What a stretch of mending does: which drives get the current record.
+#![tactic(auto)]
+
 ghost use Rattle.std.specs.Prelude.{◌≡◌, ◌≤◌};
 ghost use Rattle.mending.specs.Stretches.{stretch_of, StretchAsks};
 

@@ -1,4 +1,6 @@
 // Stripes of six pieces: two parity pieces worked out of four data pieces, and any piece made anew of any four.
+#![tactic(auto)]
+
 ghost use Rattle.std.specs.Prelude.{◌+◌, ◌*◌, ◌<◌, ◌≤◌, ltb, get_or, length, cond, ◌&&◌, [], ◌∷◌, ◌≢◌, ◌≡◌};
 ghost use Rattle.elements.specs.Accepted.{all_of, rising};
 ghost use Rattle.field.specs.Stripe.{decoded, four_held, rebuilt};

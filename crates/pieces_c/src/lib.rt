@@ -1,4 +1,6 @@
 // `pieces` for programs in C and Rust that link it: `rt staticlib pieces_c`. A slice is a pointer and a length there.
+#![tactic(auto)]
+
 ghost use Rattle.std.specs.Prelude.{ltb, length, cond, ◌&&◌, [], ◌∷◌, ◌≡◌};
 ghost use Rattle.field.specs.Stripe.{decoded, four_held, parity_p, parity_q, rebuilt};
 ghost use Rattle.elements.specs.Accepted.{all_of, rising};

@@ -1,1 +1,3 @@
 // The promise of the whole is in specs/Promise.antt.
+#![tactic(auto)]
+

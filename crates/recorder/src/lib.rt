@@ -1,4 +1,6 @@
 // The root record in code: one payload, kept on six drives, whatever becomes of two of them.
+#![tactic(auto)]
+
 ghost use Rattle.std.specs.Prelude.{◌≡◌, false, map, slice_index_or};
 ghost use Rattle.labels.specs.Times.{trusts};
 ghost use Rattle.steps.specs.declared.Lent.{Lent};

@@ -1,4 +1,6 @@
 // Plays scripts on drives in memory, over the machine and the loop of the real program.
+#![tactic(auto)]
+
 mod answers;
 mod machine;
 mod rehearsal;

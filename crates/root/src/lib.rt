@@ -1,4 +1,6 @@
 // The root record: one payload, kept on six drives, whatever becomes of two of them.
+#![tactic(auto)]
+
 ghost use Rattle.root.specs.Root.{LawfulCodec, RootStands};
 ghost use Rattle.root.specs.Labels.{LabelledRootStands};
 

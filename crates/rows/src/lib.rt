@@ -1,4 +1,6 @@
 // Rows and one payload: what a layer above the drives may count on.
+#![tactic(auto)]
+
 ghost use Rattle.rows.specs.Laws.{Kinds, RowsStay};
 
 // What rows hold, and what a payload is.

@@ -1,4 +1,6 @@
 // What a rehearsal's script says beyond what both programs are told, and which drives may be lost.
+#![tactic(auto)]
+
 ghost use Rattle.std.specs.Prelude.{◌≡◌, ℕ, ◌≤◌, true, false, cond, List, length, Some, None, codes};
 ghost use Rattle.console.specs.Commands.{begins_with, is_word, Trims};
 ghost use Rattle.script.specs.Numbers.{number_of, number_after};

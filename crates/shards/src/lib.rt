@@ -1,4 +1,6 @@
 // How rows of 16,384 bytes lie on six drives, of which any four give all back.
+#![tactic(auto)]
+
 ghost use Rattle.shards.specs.Shards.{bytes};
 ghost use Rattle.stripes.specs.Coding.{LawfulCoding};
 

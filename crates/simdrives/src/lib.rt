@@ -1,4 +1,6 @@
 // Six drives in memory that can be lost, replaced and cut.
+#![tactic(auto)]
+
 ghost use Rattle.std.specs.Prelude.{◌≡◌, ℕ, ◌<◌, Bool, true, false, List, [], length, IfOk, if◌then◌else◌, ◌≢◌, slice_index_or};
 ghost use Rattle.drives.specs.Drives.{Drives, gone, there, blank_drive, shown, written_to, synced_one, put, AfterCut, CutSlot};
 ghost use Rattle.drives.specs.Machines.{is_gone};

@@ -1,4 +1,6 @@
 // Reads lines of bytes in hexadecimal, and says of each whether it is a call, and whether it is an answer, by the proved readers; each is written again and compared.
+#![tactic(auto)]
+
 use answers::{read_answer, write_answer};
 use asks::write_call;
 use console::{Input, Text, TextLine, understand};

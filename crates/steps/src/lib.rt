@@ -1,4 +1,6 @@
 // Machines in code: each does one step at a time and asks for one thing at a time, and is tied to the machine of the theorems.
+#![tactic(auto)]
+
 ghost use Rattle.std.specs.Prelude.{◌≡◌};
 ghost use Rattle.steps.specs.Steps.{unused, sector_at, placed};
 

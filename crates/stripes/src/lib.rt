@@ -1,4 +1,6 @@
 // Rows and one payload on six drives, whatever becomes of two of them at a time.
+#![tactic(auto)]
+
 ghost use Rattle.stripes.specs.Stripes.{Setting, StripesStand};
 
 // How labels are sectors, and how rows lie on drives.

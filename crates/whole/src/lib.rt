@@ -1,4 +1,6 @@
 // The whole: a house of the clock over the root record, on six drives. Both programs answer lines by these functions, and by no others.
+#![tactic(auto)]
+
 ghost use Rattle.std.specs.Prelude.{◌≡◌};
 ghost use Rattle.drives.specs.Drives.{Drives};
 ghost use Rattle.recorder.specs.Recording.{recorder_code};

@@ -5,21 +5,21 @@ use Rattle.answers.proofs.Writes.{wrote_as, no_is, yes_is, number_is, got_is, li
 use Rattle.answers.proofs.write_answer.Goals as goal
 
 pub returns-in-No : goal.returns-in-No
-returns-in-No c = wrote_as _ c.args.answer _ _ _ _ _ (no_is c.in-No.refusal c.number.result c.number.ensures) c.in-No.is c.write-line.ensures
+returns-in-No c = wrote_as _ c.args.answer _ _ _ _ _ (no_is c.in-No.refusal c.number.result c.number.ensures) c.in-No.is c.write_line.ensures
 
 pub returns-in-Yes : goal.returns-in-Yes
-returns-in-Yes c = wrote_as _ c.args.answer _ _ _ _ _ yes_is c.in-Yes.is c.write-line-in-Yes.ensures
+returns-in-Yes c = wrote_as _ c.args.answer _ _ _ _ _ yes_is c.in-Yes.is c.write_line-in-Yes.ensures
 
 pub returns-in-Number : goal.returns-in-Number
-returns-in-Number c = wrote_as _ c.args.answer _ _ _ _ _ (number_is c.in-Number.number) c.in-Number.is c.write-line-in-Number.ensures
+returns-in-Number c = wrote_as _ c.args.answer _ _ _ _ _ (number_is c.in-Number.number) c.in-Number.is c.write_line-in-Number.ensures
 
 pub returns-in-Got : goal.returns-in-Got
-returns-in-Got c = wrote_as _ c.args.answer _ _ _ _ _ (got_is c.in-Got.number c.in-Got.length c.in-Got.bytes) c.in-Got.is c.write-line-in-Got.ensures
+returns-in-Got c = wrote_as _ c.args.answer _ _ _ _ _ (got_is c.in-Got.number c.in-Got.length c.in-Got.bytes) c.in-Got.is c.write_line-in-Got.ensures
 
-pub returns-else-not-are-entries : goal.returns-else-not-are-entries
-returns-else-not-are-entries c =
-    let are : are_many entry_in c.in-List.count c.in-List.entries.now ≡ true = sym c.are-entries.ensures.are ∙ c.if-not-are-entries.false in
-    wrote_as _ c.args.answer _ _ _ _ _ (list_is c.in-List.count c.in-List.entries c.are-entries.ensures.bytes are) c.in-List.is c.write-line-in-List.ensures
+pub returns-else-not-are_entries : goal.returns-else-not-are_entries
+returns-else-not-are_entries c =
+    let are : are_many entry_in c.in-List.count c.in-List.entries.now ≡ true = sym c.are_entries.ensures.are ∙ c.if-not-are_entries.false in
+    wrote_as _ c.args.answer _ _ _ _ _ (list_is c.in-List.count c.in-List.entries c.are_entries.ensures.bytes are) c.in-List.is c.write_line-in-List.ensures
 
 pub returns-in-Full : goal.returns-in-Full
-returns-in-Full c = wrote_as _ c.args.answer _ _ _ _ _ full_is c.in-Full.is c.write-line-in-Full.ensures
+returns-in-Full c = wrote_as _ c.args.answer _ _ _ _ _ full_is c.in-Full.is c.write_line-in-Full.ensures

@@ -11,4 +11,4 @@ pub returns : goal.returns
 unfolding every
 returns c =
     let out = c.args.out.now in
-    subst (λ (x : Call). Wrote (fits x) (line_of c.args.tag (call_bytes (means x))) out c.write-call.result c.write-call.new.out) c.telling-call.ensures c.write-call.ensures
+    subst (λ (x : Call). Wrote (fits x) (line_of c.args.tag (call_bytes (means x))) out c.write_call.result c.write_call.new.out) c.telling-call.ensures c.write_call.ensures

@@ -8,7 +8,7 @@ pub loop-s-preserved : goal.loop-s-preserved
 loop-s-preserved c =
     let all = c.args.seen.now in
     let i = c.loop-s.s-index in
-    c.loop-s.invariant ∙ elected_more all c.loop-s.best all i Nothing (omega arith) ∙ ap (λ b. elected all b (drop (i + 1) all)) (sym c.better-length-best.ensures)
+    c.loop-s.invariant ∙ elected_more all c.loop-s.best all i Nothing (omega arith) ∙ ap (λ b. elected all b (drop (i + 1) all)) (sym c.better_length-best.ensures)
 
 pub returns : goal.returns
 returns c = let all = c.args.seen.now in ap (λ b. b / 512) (sym (c.loop-s.invariant ∙ elected_all all c.loop-s.best all c.loop-s.s-index (omega arith)))

@@ -15,10 +15,10 @@ returns g c =
     let e : Drives = g.D.Disks.model c.finish.new.d in
     let x : Held g.M.State.Denot = record { me = g.M.Stepper.view c.finish.new.m; lent = c.finish.new.lent } in
     let old : Held g.M.State.Denot = record { me = g.M.Stepper.view c.args.m.now; lent = c.args.lent.now } in
-    let code : g.D.Disks.known c.args.d.now → g.D.Disks.known c.finish.new.d × Leaves ((machine_of s c.args.most).mends old) d (record { whole = c.is-whole.result; mem = x }) e = λ k.
+    let code : g.D.Disks.known c.args.d.now → g.D.Disks.known c.finish.new.d × Leaves ((machine_of s c.args.most).mends old) d (record { whole = c.is_whole.result; mem = x }) e = λ k.
     let h = c.finish.ensures k in (
       h.0,
-      subst⁻¹ (λ r. Leaves ((machine_of s c.args.most).mends old) d (record { whole = r; mem = x }) e) c.is-whole.ensures
+      subst⁻¹ (λ r. Leaves ((machine_of s c.args.most).mends old) d (record { whole = r; mem = x }) e) c.is_whole.ensures
           (leaves_map _ _ d (subst (λ m. Leaves (runs s.steps c.args.most (first s m c.args.lent.now)) d x e) c.mend.ensures h.1)),
     ) in
     record { code = code; read = λ k size y lo hi b same. leaves_ends d ((tied_mirrors (g.met.M.Stepper.tied size lo hi) c.args.most b).mends old y same) (code k).1 }

@@ -5,8 +5,8 @@ use Rattle.fills.proofs.Puts.{put_put, put_none}
 use Rattle.fills.proofs.Sizes.{at, body_step, body_none, fit_step}
 use Rattle.fills.proofs.put_fields.Goals as goal
 
-pub put-field-at-requires : goal.put-field-at-requires
-put-field-at-requires c =
+pub put_field-at-requires : goal.put_field-at-requires
+put_field-at-requires c =
     let fs = c.args.fields.now in
     let i = c.loop-field.field-index in
     let e = ap length (body_step fs i c.loop-field-test.true) ∙ length-append (field_bytes (at fs i)) (body_bytes (drop (i + 1) fs)) in
@@ -20,12 +20,12 @@ loop-field-preserved c =
     let e = body_step fs i c.loop-field-test.true in
     let n = ap length e ∙ length-append f (body_bytes (drop (i + 1) fs)) in
     let room : c.loop-field.at + length (f ++ body_bytes (drop (i + 1) fs)) ≤ length c.loop-field.out = omega (arith, ap length e, c.loop-field.invariant.1, c.requires.0) in (
-      ap (λ (k : ℕ). put_at k (body_bytes (drop (i + 1) fs)) c.put-field-at.new.out) c.put-field-at.ensures.at
-          ∙ ap (λ (l : List ℕ). put_at (c.loop-field.at + length f) (body_bytes (drop (i + 1) fs)) l) c.put-field-at.ensures.out
+      ap (λ (k : ℕ). put_at k (body_bytes (drop (i + 1) fs)) c.put_field-at.new.out) c.put_field-at.ensures.at
+          ∙ ap (λ (l : List ℕ). put_at (c.loop-field.at + length f) (body_bytes (drop (i + 1) fs)) l) c.put_field-at.ensures.out
           ∙ put_put c.loop-field.at f (body_bytes (drop (i + 1) fs)) c.loop-field.out room
           ∙ ap (λ (l : List ℕ). put_at c.loop-field.at l c.loop-field.out) (sym e)
           ∙ c.loop-field.invariant.0,
-      omega (arith, n, c.loop-field.invariant.1, c.put-field-at.ensures.at),
+      omega (arith, n, c.loop-field.invariant.1, c.put_field-at.ensures.at),
       (fit_step fs i c.loop-field-test.true c.loop-field.invariant.2).1,
     )
 

@@ -13,7 +13,7 @@ returns-then-out-total c =
     let out = c.args.out.now in
     let fs = c.args.fields.now in
     let line = line_of c.args.tag (body_bytes fs) in
-    let told = told_some (line_fits fs) c.in-ok-total.total (4 + length (body_bytes fs)) c.in-ok-total.ensures in
+    let told = told_some (line_fits fs) c.in_ok-total.total (4 + length (body_bytes fs)) c.in_ok-total.ensures in
     let short : length out < length line = omega (arith, line_long c.args.tag (body_bytes fs), told.1) in
     stays (line_fits fs) line out (grind (arith, nat_tests))
 
@@ -24,13 +24,13 @@ returns c =
     let fs = c.args.fields.now in
     let body = body_bytes fs in
     let tag = c.args.tag in
-    let told = told_some (line_fits fs) c.in-ok-total.total (4 + length body) c.in-ok-total.ensures in
+    let told = told_some (line_fits fs) c.in_ok-total.total (4 + length body) c.in_ok-total.ensures in
     let long = line_long tag body in
     let room : length (line_of tag body) ≤ length out = omega (arith, told.1) in
-    let n : c.put-fields.result ≡ length (line_of tag body) = omega (arith, c.put-fields.ensures.at, c.put-u32-at.ensures.at, c.put-u32-at-2.ensures.at) in
-    let now : c.put-fields.new.out ≡ put_at c.put-u32-at-2.result body (put_at c.put-u32-at.result (number 4 tag) (put_at 0 (number 4 (4 + length body)) out)) =
-    c.put-fields.ensures.out
-    ∙ ap (λ (l : List ℕ). put_at c.put-u32-at-2.result body l) (c.put-u32-at-2.ensures.out
-    ∙ ap (λ (l : List ℕ). put_at c.put-u32-at.result (number 4 tag) l) (c.put-u32-at.ensures.out ∙ ap (λ (k : ℕ). put_at 0 (number 4 k) out) told.1)) in
-    goes (line_fits fs) (line_of tag body) out c.put-fields.result c.put-fields.new.out told.0 room n
-    (now ∙ put_line (number 4 (4 + length body)) (number 4 tag) body out c.put-u32-at.result c.put-u32-at-2.result c.put-u32-at.ensures.at c.put-u32-at-2.ensures.at room)
+    let n : c.put_fields.result ≡ length (line_of tag body) = omega (arith, c.put_fields.ensures.at, c.put_u32-at.ensures.at, c.put_u32-at-2.ensures.at) in
+    let now : c.put_fields.new.out ≡ put_at c.put_u32-at-2.result body (put_at c.put_u32-at.result (number 4 tag) (put_at 0 (number 4 (4 + length body)) out)) =
+    c.put_fields.ensures.out
+    ∙ ap (λ (l : List ℕ). put_at c.put_u32-at-2.result body l) (c.put_u32-at-2.ensures.out
+    ∙ ap (λ (l : List ℕ). put_at c.put_u32-at.result (number 4 tag) l) (c.put_u32-at.ensures.out ∙ ap (λ (k : ℕ). put_at 0 (number 4 k) out) told.1)) in
+    goes (line_fits fs) (line_of tag body) out c.put_fields.result c.put_fields.new.out told.0 room n
+    (now ∙ put_line (number 4 (4 + length body)) (number 4 tag) body out c.put_u32-at.result c.put_u32-at-2.result c.put_u32-at.ensures.at c.put_u32-at-2.ensures.at room)

@@ -12,5 +12,5 @@ unfolding told_bytes
 returns c =
     let t = c.args.told in
     let out = c.args.out.now in
-    subst (λ (x : Reply). Wrote true (line_of t.tag (reply_bytes x)) out c.write-answer.result c.write-answer.new.out) c.answer-of-answer.ensures.says
-    (subst (λ (b : Bool). Wrote b (line_of t.tag (reply_bytes (says c.answer-of-answer.result))) out c.write-answer.result c.write-answer.new.out) c.answer-of-answer.ensures.fits c.write-answer.ensures)
+    subst (λ (x : Reply). Wrote true (line_of t.tag (reply_bytes x)) out c.write_answer.result c.write_answer.new.out) c.answer_of-answer.ensures.says
+    (subst (λ (b : Bool). Wrote b (line_of t.tag (reply_bytes (says c.answer_of-answer.result))) out c.write_answer.result c.write_answer.new.out) c.answer_of-answer.ensures.fits c.write_answer.ensures)

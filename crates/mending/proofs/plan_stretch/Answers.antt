@@ -5,7 +5,7 @@ use Rattle.mending.specs.Stretches.{lacks, many}
 use Rattle.mending.specs.declared.Stretch.{Stretch}
 use Rattle.mending.proofs.Marks.{marked, marks, leaves, counts, marked_all}
 use Rattle.mending.proofs.plan_stretch.Goals as goal
-use Rattle.mending.proofs.plan_stretch.Goals.{then-not-is-trusted, else-not-is-trusted}
+use Rattle.mending.proofs.plan_stretch.Goals.{then-not-is_trusted, else-not-is_trusted}
 
 pub overflow-add-asks : goal.overflow-add-asks
 overflow-add-asks c = omega arith
@@ -13,15 +13,15 @@ overflow-add-asks c = omega arith
 pub loop-i-preserved : goal.loop-i-preserved
 loop-i-preserved c =
     let h : c.loop-i.i < length c.args.seen = omega arith in
-    elim c.if-not-is-trusted.branch [
-      | then-not-is-trusted w ↦
-          (let t : lacks (get_or c.args.seen c.loop-i.i Missing) ≡ true = ap not (sym w.if-not-is-trusted.ensures) in (
+    elim c.if-not-is_trusted.branch [
+      | then-not-is_trusted w ↦
+          (let t : lacks (get_or c.args.seen c.loop-i.i Missing) ≡ true = ap not (sym w.if-not-is_trusted.ensures) in (
             w.fills-is ∙ ap (λ l. set l c.loop-i.i true) c.loop-i.invariant.0 ∙ marks lacks Missing c.args.seen 6 c.loop-i.i h (omega arith) t,
             omega (arith, w.asks-is, c.loop-i.invariant.1, counts lacks Missing c.args.seen c.loop-i.i true h t),
             omega (arith, w.asks-is, c.loop-i.invariant.2),
           ))
-      | else-not-is-trusted w ↦
-          (let t : lacks (get_or c.args.seen c.loop-i.i Missing) ≡ false = ap not (sym w.if-not-is-trusted.ensures) in (
+      | else-not-is_trusted w ↦
+          (let t : lacks (get_or c.args.seen c.loop-i.i Missing) ≡ false = ap not (sym w.if-not-is_trusted.ensures) in (
             w.fills-is ∙ c.loop-i.invariant.0 ∙ leaves lacks Missing c.args.seen 6 c.loop-i.i h (omega arith) t,
             omega (arith, w.asks-is, c.loop-i.invariant.1, counts lacks Missing c.args.seen c.loop-i.i false h t),
             omega (arith, w.asks-is, c.loop-i.invariant.2),

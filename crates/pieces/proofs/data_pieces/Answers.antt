@@ -19,52 +19,52 @@ pub returns-in-1 : goal.returns-in-1
 returns-in-1 c =
     let hs = four_held (get_or c.args.places 0 0) (get_or c.args.places 1 0) (get_or c.args.places 2 0) (get_or c.args.places 3 0) c.args.w.now c.args.x.now c.args.y.now c.args.z.now in
     all_data (get_or c.args.places 0 0) (get_or c.args.places 1 0) (get_or c.args.places 2 0) (get_or c.args.places 3 0) c.args.w.now c.args.x.now c.args.y.now c.args.z.now _ _ _ _
-    (there hs (get_or c.args.places 0 0) 0 _ c.two-lost.ensures.k (omega arith))
-    (there hs (get_or c.args.places 1 0) 1 _ c.two-lost.ensures.l (omega arith))
-    c.two-lost.ensures.one
-    c.two-lost.ensures.two
+    (there hs (get_or c.args.places 0 0) 0 _ c.two_lost.ensures.k (omega arith))
+    (there hs (get_or c.args.places 1 0) 1 _ c.two_lost.ensures.l (omega arith))
+    c.two_lost.ensures.one
+    c.two_lost.ensures.two
 
 pub returns-in-2 : goal.returns-in-2
 returns-in-2 c =
     let hs = four_held (get_or c.args.places 0 0) (get_or c.args.places 1 0) (get_or c.args.places 2 0) (get_or c.args.places 3 0) c.args.w.now c.args.x.now c.args.y.now c.args.z.now in
     all_data (get_or c.args.places 0 0) (get_or c.args.places 1 0) (get_or c.args.places 2 0) (get_or c.args.places 3 0) c.args.w.now c.args.x.now c.args.y.now c.args.z.now _ _ _ _
-    (there hs (get_or c.args.places 0 0) 0 _ c.two-lost-in-2.ensures.k (omega arith))
-    c.two-lost-in-2.ensures.one
-    (there hs (get_or c.args.places 1 0) 2 _ c.two-lost-in-2.ensures.l (omega arith))
-    c.two-lost-in-2.ensures.two
+    (there hs (get_or c.args.places 0 0) 0 _ c.two_lost-in-2.ensures.k (omega arith))
+    c.two_lost-in-2.ensures.one
+    (there hs (get_or c.args.places 1 0) 2 _ c.two_lost-in-2.ensures.l (omega arith))
+    c.two_lost-in-2.ensures.two
 
 pub returns-in-3 : goal.returns-in-3
 returns-in-3 c =
     let hs = four_held (get_or c.args.places 0 0) (get_or c.args.places 1 0) (get_or c.args.places 2 0) (get_or c.args.places 3 0) c.args.w.now c.args.x.now c.args.y.now c.args.z.now in
     all_data (get_or c.args.places 0 0) (get_or c.args.places 1 0) (get_or c.args.places 2 0) (get_or c.args.places 3 0) c.args.w.now c.args.x.now c.args.y.now c.args.z.now _ _ _ _
-    (there hs (get_or c.args.places 0 0) 0 _ c.two-lost-in-3.ensures.k (omega arith))
-    c.two-lost-in-3.ensures.one
-    c.two-lost-in-3.ensures.two
-    (there hs (get_or c.args.places 1 0) 3 _ c.two-lost-in-3.ensures.l (omega arith))
+    (there hs (get_or c.args.places 0 0) 0 _ c.two_lost-in-3.ensures.k (omega arith))
+    c.two_lost-in-3.ensures.one
+    c.two_lost-in-3.ensures.two
+    (there hs (get_or c.args.places 1 0) 3 _ c.two_lost-in-3.ensures.l (omega arith))
 
 pub returns-in-6 : goal.returns-in-6
 returns-in-6 c =
     let hs = four_held (get_or c.args.places 0 0) (get_or c.args.places 1 0) (get_or c.args.places 2 0) (get_or c.args.places 3 0) c.args.w.now c.args.x.now c.args.y.now c.args.z.now in
     all_data (get_or c.args.places 0 0) (get_or c.args.places 1 0) (get_or c.args.places 2 0) (get_or c.args.places 3 0) c.args.w.now c.args.x.now c.args.y.now c.args.z.now _ _ _ _
-    c.two-lost-in-6.ensures.one
-    (there hs (get_or c.args.places 0 0) 1 _ c.two-lost-in-6.ensures.k (omega arith))
-    (there hs (get_or c.args.places 1 0) 2 _ c.two-lost-in-6.ensures.l (omega arith))
-    c.two-lost-in-6.ensures.two
+    c.two_lost-in-6.ensures.one
+    (there hs (get_or c.args.places 0 0) 1 _ c.two_lost-in-6.ensures.k (omega arith))
+    (there hs (get_or c.args.places 1 0) 2 _ c.two_lost-in-6.ensures.l (omega arith))
+    c.two_lost-in-6.ensures.two
 
 pub returns-in-7 : goal.returns-in-7
 returns-in-7 c =
     let hs = four_held (get_or c.args.places 0 0) (get_or c.args.places 1 0) (get_or c.args.places 2 0) (get_or c.args.places 3 0) c.args.w.now c.args.x.now c.args.y.now c.args.z.now in
     all_data (get_or c.args.places 0 0) (get_or c.args.places 1 0) (get_or c.args.places 2 0) (get_or c.args.places 3 0) c.args.w.now c.args.x.now c.args.y.now c.args.z.now _ _ _ _
-    c.two-lost-in-7.ensures.one
-    (there hs (get_or c.args.places 0 0) 1 _ c.two-lost-in-7.ensures.k (omega arith))
-    c.two-lost-in-7.ensures.two
-    (there hs (get_or c.args.places 1 0) 3 _ c.two-lost-in-7.ensures.l (omega arith))
+    c.two_lost-in-7.ensures.one
+    (there hs (get_or c.args.places 0 0) 1 _ c.two_lost-in-7.ensures.k (omega arith))
+    c.two_lost-in-7.ensures.two
+    (there hs (get_or c.args.places 1 0) 3 _ c.two_lost-in-7.ensures.l (omega arith))
 
 pub returns-in-default : goal.returns-in-default
 returns-in-default c =
     let hs = four_held (get_or c.args.places 0 0) (get_or c.args.places 1 0) (get_or c.args.places 2 0) (get_or c.args.places 3 0) c.args.w.now c.args.x.now c.args.y.now c.args.z.now in
     all_data (get_or c.args.places 0 0) (get_or c.args.places 1 0) (get_or c.args.places 2 0) (get_or c.args.places 3 0) c.args.w.now c.args.x.now c.args.y.now c.args.z.now _ _ _ _
-    c.two-lost-in-default.ensures.one
-    c.two-lost-in-default.ensures.two
-    (there hs (get_or c.args.places 0 0) 2 _ c.two-lost-in-default.ensures.k (omega arith))
-    (there hs (get_or c.args.places 1 0) 3 _ c.two-lost-in-default.ensures.l (omega arith))
+    c.two_lost-in-default.ensures.one
+    c.two_lost-in-default.ensures.two
+    (there hs (get_or c.args.places 0 0) 2 _ c.two_lost-in-default.ensures.k (omega arith))
+    (there hs (get_or c.args.places 1 0) 3 _ c.two_lost-in-default.ensures.l (omega arith))

@@ -18,7 +18,7 @@ returns-then-wanted-p c =
       gz = good (length c.args.w.now) c.args.y.now (omega arith) c.type-inv.y;
       gw = good (length c.args.w.now) c.args.z.now (omega arith) c.type-inv.z;
     } in
-    c.copy-from-slice.ensures.after ∙ is_first (get_or c.args.places 0 0) (get_or c.args.places 1 0) (get_or c.args.places 2 0) (get_or c.args.places 3 0) (length c.args.w.now) c.args.w.now c.args.x.now c.args.y.now c.args.z.now four c.args.wanted c.if-wanted-p.true
+    c.copy_from_slice.ensures.after ∙ is_first (get_or c.args.places 0 0) (get_or c.args.places 1 0) (get_or c.args.places 2 0) (get_or c.args.places 3 0) (length c.args.w.now) c.args.w.now c.args.x.now c.args.y.now c.args.z.now four c.args.wanted c.if-wanted-p.true
 
 pub returns-then-wanted-q : goal.returns-then-wanted-q
 returns-then-wanted-q c =
@@ -33,7 +33,7 @@ returns-then-wanted-q c =
       gz = good (length c.args.w.now) c.args.y.now (omega arith) c.type-inv.y;
       gw = good (length c.args.w.now) c.args.z.now (omega arith) c.type-inv.z;
     } in
-    c.copy-from-slice-then-wanted-q.ensures.after ∙ is_second (get_or c.args.places 0 0) (get_or c.args.places 1 0) (get_or c.args.places 2 0) (get_or c.args.places 3 0) (length c.args.w.now) c.args.w.now c.args.x.now c.args.y.now c.args.z.now four c.args.wanted c.if-wanted-q.true
+    c.copy_from_slice-then-wanted-q.ensures.after ∙ is_second (get_or c.args.places 0 0) (get_or c.args.places 1 0) (get_or c.args.places 2 0) (get_or c.args.places 3 0) (length c.args.w.now) c.args.w.now c.args.x.now c.args.y.now c.args.z.now four c.args.wanted c.if-wanted-q.true
 
 pub returns-then-wanted-r : goal.returns-then-wanted-r
 returns-then-wanted-r c =
@@ -48,7 +48,7 @@ returns-then-wanted-r c =
       gz = good (length c.args.w.now) c.args.y.now (omega arith) c.type-inv.y;
       gw = good (length c.args.w.now) c.args.z.now (omega arith) c.type-inv.z;
     } in
-    c.copy-from-slice-then-wanted-r.ensures.after ∙ is_third (get_or c.args.places 0 0) (get_or c.args.places 1 0) (get_or c.args.places 2 0) (get_or c.args.places 3 0) (length c.args.w.now) c.args.w.now c.args.x.now c.args.y.now c.args.z.now four c.args.wanted c.if-wanted-r.true
+    c.copy_from_slice-then-wanted-r.ensures.after ∙ is_third (get_or c.args.places 0 0) (get_or c.args.places 1 0) (get_or c.args.places 2 0) (get_or c.args.places 3 0) (length c.args.w.now) c.args.w.now c.args.x.now c.args.y.now c.args.z.now four c.args.wanted c.if-wanted-r.true
 
 pub returns-then-wanted-s : goal.returns-then-wanted-s
 returns-then-wanted-s c =
@@ -63,7 +63,7 @@ returns-then-wanted-s c =
       gz = good (length c.args.w.now) c.args.y.now (omega arith) c.type-inv.y;
       gw = good (length c.args.w.now) c.args.z.now (omega arith) c.type-inv.z;
     } in
-    c.copy-from-slice-then-wanted-s.ensures.after ∙ is_fourth (get_or c.args.places 0 0) (get_or c.args.places 1 0) (get_or c.args.places 2 0) (get_or c.args.places 3 0) (length c.args.w.now) c.args.w.now c.args.x.now c.args.y.now c.args.z.now four c.args.wanted c.if-wanted-s.true
+    c.copy_from_slice-then-wanted-s.ensures.after ∙ is_fourth (get_or c.args.places 0 0) (get_or c.args.places 1 0) (get_or c.args.places 2 0) (get_or c.args.places 3 0) (length c.args.w.now) c.args.w.now c.args.x.now c.args.y.now c.args.z.now four c.args.wanted c.if-wanted-s.true
 
 pub returns-else-wanted-s : goal.returns-else-wanted-s
 returns-else-wanted-s c =
@@ -78,4 +78,4 @@ returns-else-wanted-s c =
       gz = good (length c.args.w.now) c.args.y.now (omega arith) c.type-inv.y;
       gw = good (length c.args.w.now) c.args.z.now (omega arith) c.type-inv.z;
     } in
-    c.fill-lost.ensures ∙ is_lost (get_or c.args.places 0 0) (get_or c.args.places 1 0) (get_or c.args.places 2 0) (get_or c.args.places 3 0) (length c.args.w.now) c.args.w.now c.args.x.now c.args.y.now c.args.z.now four c.args.wanted (omega arith) c.if-wanted-p.false c.if-wanted-q.false c.if-wanted-r.false c.if-wanted-s.false
+    c.fill_lost.ensures ∙ is_lost (get_or c.args.places 0 0) (get_or c.args.places 1 0) (get_or c.args.places 2 0) (get_or c.args.places 3 0) (length c.args.w.now) c.args.w.now c.args.x.now c.args.y.now c.args.z.now four c.args.wanted (omega arith) c.if-wanted-p.false c.if-wanted-q.false c.if-wanted-r.false c.if-wanted-s.false

@@ -33,10 +33,10 @@ returns c =
     let jq : j ≢ get_or c.args.places 1 0 = omega arith in
     let r4 : get_or c.args.places 2 0 ≡ 4 = omega arith in
     record {
-      k = c.copy-from-slice.ensures.after ∙ is_first (get_or c.args.places 0 0) (get_or c.args.places 1 0) (get_or c.args.places 2 0) (get_or c.args.places 3 0) (length c.args.w.now) c.args.w.now c.args.x.now c.args.y.now c.args.z.now four _ refl;
-      l = c.copy-from-slice-2.ensures.after ∙ is_second (get_or c.args.places 0 0) (get_or c.args.places 1 0) (get_or c.args.places 2 0) (get_or c.args.places 3 0) (length c.args.w.now) c.args.w.now c.args.x.now c.args.y.now c.args.z.now four _ refl;
+      k = c.copy_from_slice.ensures.after ∙ is_first (get_or c.args.places 0 0) (get_or c.args.places 1 0) (get_or c.args.places 2 0) (get_or c.args.places 3 0) (length c.args.w.now) c.args.w.now c.args.x.now c.args.y.now c.args.z.now four _ refl;
+      l = c.copy_from_slice-2.ensures.after ∙ is_second (get_or c.args.places 0 0) (get_or c.args.places 1 0) (get_or c.args.places 2 0) (get_or c.args.places 3 0) (length c.args.w.now) c.args.w.now c.args.x.now c.args.y.now c.args.z.now four _ refl;
       one =
-          c.blend.ensures ∙ ap (map4 (dot (generator 4)) c.args.w.now c.args.x.now c.args.y.now) c.fill-lost.ensures
+          c.blend.ensures ∙ ap (map4 (dot (generator 4)) c.args.w.now c.args.x.now c.args.y.now) c.fill_lost.ensures
           ∙ is_other_lost (get_or c.args.places 0 0) (get_or c.args.places 1 0) (get_or c.args.places 2 0) (get_or c.args.places 3 0) (length c.args.w.now) c.args.w.now c.args.x.now c.args.y.now c.args.z.now four i j hi hj ij ip iq jp jq r4;
-      two = c.fill-lost.ensures ∙ is_one_lost (get_or c.args.places 0 0) (get_or c.args.places 1 0) (get_or c.args.places 2 0) (get_or c.args.places 3 0) (length c.args.w.now) c.args.w.now c.args.x.now c.args.y.now c.args.z.now four j i hj hi ji jp jq ip iq r4;
+      two = c.fill_lost.ensures ∙ is_one_lost (get_or c.args.places 0 0) (get_or c.args.places 1 0) (get_or c.args.places 2 0) (get_or c.args.places 3 0) (length c.args.w.now) c.args.w.now c.args.x.now c.args.y.now c.args.z.now four j i hj hi ji jp jq ip iq r4;
     }

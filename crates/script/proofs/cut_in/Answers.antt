@@ -14,18 +14,18 @@ cut_so t n x y e h p q =
     ∙ (sym (ap (λ b. cond b (cut_by (number_of (take n t)) (chosen_of (drop (n + 1) t))) Other) l)
     ∙ ap (λ m. cond (ltb m (length t)) (cut_by (number_of (take m t)) (chosen_of (drop (m + 1) t))) Other) e))
 
-pub returns-in-Some-read-chosen : goal.returns-in-Some-read-chosen
-returns-in-Some-read-chosen c =
+pub returns-in-Some-read_chosen : goal.returns-in-Some-read_chosen
+returns-in-Some-read_chosen c =
     let t = c.args.text.now in
-    let n = c.first-space-n.result in
+    let n = c.first_space-n.result in
     let p : c.number.result ≡ number_of (take n t) = search (rules, overwrites) in
-    let q : c.read-chosen.result ≡ chosen_of (drop (n + 1) t) = search (rules, overwrites) in
-    cut_so t n _ _ c.first-space-n.ensures c.if-n-text.false (sym c.in-Some.is ∙ p) (sym c.in-Some-read-chosen.is ∙ q)
+    let q : c.read_chosen.result ≡ chosen_of (drop (n + 1) t) = search (rules, overwrites) in
+    cut_so t n _ _ c.first_space-n.ensures c.if-n-text.false (sym c.in-Some.is ∙ p) (sym c.in-Some-read_chosen.is ∙ q)
 
 pub returns-in-None : goal.returns-in-None
 returns-in-None c =
     let t = c.args.text.now in
-    let n = c.first-space-n.result in
+    let n = c.first_space-n.result in
     let p : c.number.result ≡ number_of (take n t) = search (rules, overwrites) in
-    let q : c.read-chosen.result ≡ chosen_of (drop (n + 1) t) = search (rules, overwrites) in
-    cut_so t n (Some c.in-Some.after) None c.first-space-n.ensures c.if-n-text.false (sym c.in-Some.is ∙ p) (sym c.in-None.is ∙ q)
+    let q : c.read_chosen.result ≡ chosen_of (drop (n + 1) t) = search (rules, overwrites) in
+    cut_so t n (Some c.in-Some.after) None c.first_space-n.ensures c.if-n-text.false (sym c.in-Some.is ∙ p) (sym c.in-None.is ∙ q)

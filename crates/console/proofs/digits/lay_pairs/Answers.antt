@@ -9,7 +9,7 @@ pub loop-i-preserved : goal.loop-i-preserved
 loop-i-preserved c =
     let i = c.loop-i.i in
     let ds = c.args.digits.now in
-    let v : 16 * c.digit-value.result + c.digit-value-in-loop-i.result ≡ byte_at ds i = cc in
+    let v : 16 * c.digit_value.result + c.digit_value-in-loop-i.result ≡ byte_at ds i = cc in
     rw (v, c.loop-i.invariant) (laid_more ds c.args.line.now i (omega arith) (omega arith))
 
 pub returns : goal.returns

@@ -11,9 +11,9 @@ pub loop-b-preserved : goal.loop-b-preserved
 loop-b-preserved c =
     let xs = c.args.bytes.now in
     let i = c.loop-b.b-index in
-    let a : vec_items c.push.new.self ≡ vec_items c.loop-b.out ++ (digit (get_or xs i 0 / 16) ∷ []) = c.in-ok-push.ensures.items ∙ ap (λ d. vec_items c.loop-b.out ++ (d ∷ [])) c.to-digit.ensures in
+    let a : vec_items c.push.new.self ≡ vec_items c.loop-b.out ++ (digit (get_or xs i 0 / 16) ∷ []) = c.in_ok-push.ensures.items ∙ ap (λ d. vec_items c.loop-b.out ++ (d ∷ [])) c.to_digit.ensures in
     let b : vec_items c.push-in-loop-b.new.self ≡ vec_items c.push.new.self ++ (digit (get_or xs i 0 % 16) ∷ []) =
-    c.in-ok-push-2.ensures.items ∙ ap (λ d. vec_items c.push.new.self ++ (d ∷ [])) c.to-digit-in-loop-b.ensures
+    c.in_ok-push-2.ensures.items ∙ ap (λ d. vec_items c.push.new.self ++ (d ∷ [])) c.to_digit-in-loop-b.ensures
     in
     let m = hexed_more xs i (omega arith) in
     rw (b, a, c.loop-b.invariant, m) (simp append_assoc)

@@ -16,7 +16,7 @@ overflow-mul-sum c = let h = at_most (c.args.c / 2 ^ (7 - c.loop-k.k)) c.args.x 
 
 pub loop-k-preserved : goal.loop-k-preserved
 loop-k-preserved c =
-    ap (λ n. bit_xor n (c.args.c / 2 ^ (7 - c.loop-k.k) % 2 * c.args.x)) (c.doubled-byte.ensures ∙ ap double c.loop-k.invariant)
+    ap (λ n. bit_xor n (c.args.c / 2 ^ (7 - c.loop-k.k) % 2 * c.args.x)) (c.doubled_byte.ensures ∙ ap double c.loop-k.invariant)
     ∙ by_more c.loop-k.k c.args.c c.args.x (omega arith)
 
 pub returns : goal.returns

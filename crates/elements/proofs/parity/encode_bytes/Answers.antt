@@ -17,7 +17,7 @@ loop-i-preserved c =
     let lq : i < length c.loop-i.q = omega arith in
     let la : i < length a = omega arith in (
       byte_more (dot (generator 4)) a b c' d i _ c.loop-i.p lp la c.loop-i.invariant.0 s,
-      byte_more (dot (generator 5)) a b c' d i _ c.loop-i.q lq la c.loop-i.invariant.1 c.weighted-byte.ensures,
+      byte_more (dot (generator 5)) a b c' d i _ c.loop-i.q lq la c.loop-i.invariant.1 c.weighted_byte.ensures,
     )
 
 pub returns : goal.returns

@@ -20,7 +20,7 @@ returns g c =
             k',
             record {
               bytes = told_bytes c.call-told.result;
-              written = c.write-told.ensures;
+              written = c.write_told.ensures;
               ran = line_leaves g.L.Stepper.code c.args.self.now.longest 1000 c.args.line.now c.hear-asked.result h h' c.call-told.result (model c.args.disks.now) (model c.call-told.new.d) c.hear-asked.ensures p;
             },
           );

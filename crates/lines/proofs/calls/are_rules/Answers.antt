@@ -10,4 +10,4 @@ pub loop-preserved : goal.loop-preserved
 loop-preserved c = left_more rule_in c.args.count c.loop.counter c.loop.left.now _ c.in-Some.rest.now c.loop-test.true c.in-Some.ensures ∙ c.loop.invariant
 
 pub returns : goal.returns
-returns c = record { are = c.is-empty.ensures ∙ left_ended rule_in c.args.count c.loop.counter c.loop.left.now c.loop-test.false ∙ c.loop.invariant; bytes = λ i. (c.type-inv.rules i).fits }
+returns c = record { are = c.is_empty.ensures ∙ left_ended rule_in c.args.count c.loop.counter c.loop.left.now c.loop-test.false ∙ c.loop.invariant; bytes = λ i. (c.type-inv.rules i).fits }

@@ -7,9 +7,9 @@ loop-i-init c = (c.new-drives.ensures.len, λ k h. absurd (omega arith))
 
 pub loop-i-preserved : goal.loop-i-preserved
 loop-i-preserved c =
-    let p = c.in-ok-push.ensures.by_index in
+    let p = c.in_ok-push.ensures.by_index in
     let n = c.loop-i.invariant.0 in (
-      omega (arith, c.in-ok-push.ensures.len),
+      omega (arith, c.in_ok-push.ensures.len),
       below_more _ _ (λ k h. ap slot_of (p.0 k None (omega arith)) ∙ c.loop-i.invariant.1 k h)
           (ap slot_of (ap (λ j. get_or (vec_items c.push.new.self) j None) (sym n) ∙ p.1 None refl) ∙ c.new.ensures),
     )

@@ -6,8 +6,8 @@ use Rattle.simdrives.proofs.sectors.Sectors.go_back.Goals as goal
 pub loop-before-init : goal.loop-before-init
 loop-before-init c = (among_first _ _, ([], refl))
 
-pub loop-before-preserved-then-one-less : goal.loop-before-preserved-then-one-less
-loop-before-preserved-then-one-less c =
+pub loop-before-preserved-then-one_less : goal.loop-before-preserved-then-one_less
+loop-before-preserved-then-one_less c =
     let w = c.in-Some.before in
     let done = c.loop-before.invariant.1.0 in
     let all = vec_items c.args.self.now.undo in
@@ -15,12 +15,12 @@ loop-before-preserved-then-one-less c =
     let ys = vec_items c.pop.new.self in
     let p = c.loop-before.invariant.1.1 in
     let q = c.in-Some.ensures.items in (
-      back_among (holds_at c.args.self.now) (holds_at c.loop-before.self) (holds_at c.put-back.new.self) done xs ys all w p q c.loop-before.invariant.0 c.put-back.ensures.here c.put-back.ensures.other,
-      (done ++ w ∷ [], back_rest done xs ys all w p q ∙ ap (λ u. (done ++ w ∷ []) ++ reverse (vec_items u)) (sym c.put-back.ensures.undo)),
+      back_among (holds_at c.args.self.now) (holds_at c.loop-before.self) (holds_at c.put_back.new.self) done xs ys all w p q c.loop-before.invariant.0 c.put_back.ensures.here c.put_back.ensures.other,
+      (done ++ w ∷ [], back_rest done xs ys all w p q ∙ ap (λ u. (done ++ w ∷ []) ++ reverse (vec_items u)) (sym c.put_back.ensures.undo)),
     )
 
-pub loop-before-preserved-else-one-less : goal.loop-before-preserved-else-one-less
-loop-before-preserved-else-one-less c =
+pub loop-before-preserved-else-one_less : goal.loop-before-preserved-else-one_less
+loop-before-preserved-else-one_less c =
     let w = c.in-Some.before in
     let done = c.loop-before.invariant.1.0 in (
       c.loop-before.invariant.0,

@@ -19,7 +19,7 @@ returns-in-Ok-insert c =
     let o = btree-map-from-valid nat_cmp c.args.self.now.holds c.args.self.now.lawful in
     let p = btree-map-inserts nat_cmp c.args.self.now.holds c.insert.new.self c.args.sector c.in-Ok.held (Ok c.in-Ok-insert.before) c.in-Ok-insert.ensures.inserted o in
     let w : Before = record { sector = c.args.sector; bytes = c.in-Ok-insert.before } in
-    wrote_so _ _ _ _ w _ (c.push-reserved.ensures.items ∙ ap (λ xs. xs ++ w ∷ []) c.reserve.ensures.items)
+    wrote_so _ _ _ _ w _ (c.push_reserved.ensures.items ∙ ap (λ xs. xs ++ w ∷ []) c.reserve.ensures.items)
     (ap (bytes_of box_value) (sym p.1.0))
     (ap (bytes_of box_value) p.1.2.here ∙ c.in-Ok.ensures.ok)
     (λ t e. ap (bytes_of box_value) (p.1.2.other t (unsigned_tied t c.args.sector ∙ e)))
