@@ -44,7 +44,7 @@ loop-left-preserved g c =
     let r = c.perform-n.result in
     let z : r - 0 ≡ r = omega arith in
     let s : suc n ≡ c.loop-left.left = omega arith in
-    let h : Held g.M.State.Denot = record { me = m; lent = c.loop-left.lent } in (
+    let h : Held g.row.M-State.Denot = record { me = m; lent = c.loop-left.lent } in (
       (λ k. let i = c.loop-left.invariant.0 k in let p = c.perform-n.ensures.does i.0 in (
         p.0,
         ap (λ x. run (runs f n x) d') c.step-ask-in-loop-left.ensures ∙

@@ -13,8 +13,8 @@ returns g c =
     let s = g.M.Stepper.code in
     let d : Drives = g.D.Disks.model c.args.d.now in
     let e : Drives = g.D.Disks.model c.finish.new.d in
-    let x : Held g.M.State.Denot = record { me = g.M.Stepper.view c.finish.new.m; lent = c.finish.new.lent } in
-    let old : Held g.M.State.Denot = record { me = g.M.Stepper.view c.args.m.now; lent = c.args.lent.now } in
+    let x : Held g.row.M-State.Denot = record { me = g.M.Stepper.view c.finish.new.m; lent = c.finish.new.lent } in
+    let old : Held g.row.M-State.Denot = record { me = g.M.Stepper.view c.args.m.now; lent = c.args.lent.now } in
     let code : g.D.Disks.known c.args.d.now → g.D.Disks.known c.finish.new.d × Leaves ((machine_of s c.args.most).mends old) d (record { whole = c.is_whole.result; mem = x }) e = λ k.
     let h = c.finish.ensures k in (
       h.0,

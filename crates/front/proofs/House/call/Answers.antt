@@ -11,8 +11,8 @@ returns g c =
     let me = c.args.self.now.stack in
     let me' = c.call-told.new.m in
     let view = g.L.Stepper.view in
-    let h : Held (Stack Clock g.L.State.Denot) = record { me = record { upper = me.upper; lower = view me.lower; doing = me.doing }; lent = c.args.lent.now } in
-    let h' : Held (Stack Clock g.L.State.Denot) = record { me = record { upper = me'.upper; lower = view me'.lower; doing = me'.doing }; lent = c.call-told.new.lent } in
+    let h : Held (Stack Clock g.row.L-State.Denot) = record { me = record { upper = me.upper; lower = view me.lower; doing = me.doing }; lent = c.args.lent.now } in
+    let h' : Held (Stack Clock g.row.L-State.Denot) = record { me = record { upper = me'.upper; lower = view me'.lower; doing = me'.doing }; lent = c.call-told.new.lent } in
     let model = g.D.Disks.model in
     record {
       ran = λ k.
