@@ -50,7 +50,7 @@ loop-left-preserved g c =
         ap (λ x. run (runs f n x) d') c.step-ask-in-loop-left.ensures ∙
             ap (λ k. run (runs f n (f h (take k c.perform-n.new.sec))) d') z ∙
             ap (λ p. run (runs f n (f h p.got)) p.drives) p.1 ∙
-            sym (turn f m c.loop-left.lent d n c.loop-left.ask c.in-default.not-Done) ∙
+            sym (turn f m c.loop-left.lent d n c.loop-left.ask c.in_default.not-Done) ∙
             ap (λ k. run (runs f k (record { me = m; lent = c.loop-left.lent; ask = c.loop-left.ask })) d) s ∙
             i.1,
       )),

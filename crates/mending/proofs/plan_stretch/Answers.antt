@@ -7,8 +7,8 @@ use Rattle.mending.proofs.Marks.{marked, marks, leaves, counts, marked_all}
 use Rattle.mending.proofs.plan_stretch.Goals as goal
 use Rattle.mending.proofs.plan_stretch.Goals.{then-not-is_trusted, else-not-is_trusted}
 
-pub overflow-add-asks : goal.overflow-add-asks
-overflow-add-asks c = omega arith
+pub overflow_add-asks : goal.overflow_add-asks
+overflow_add-asks c = omega arith
 
 pub loop-i-preserved : goal.loop-i-preserved
 loop-i-preserved c =

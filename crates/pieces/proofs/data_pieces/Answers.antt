@@ -60,11 +60,11 @@ returns-in-7 c =
     c.two_lost-in-7.ensures.two
     (there hs (get_or c.args.places 1 0) 3 _ c.two_lost-in-7.ensures.l (omega arith))
 
-pub returns-in-default : goal.returns-in-default
-returns-in-default c =
+pub returns-in_default : goal.returns-in_default
+returns-in_default c =
     let hs = four_held (get_or c.args.places 0 0) (get_or c.args.places 1 0) (get_or c.args.places 2 0) (get_or c.args.places 3 0) c.args.w.now c.args.x.now c.args.y.now c.args.z.now in
     all_data (get_or c.args.places 0 0) (get_or c.args.places 1 0) (get_or c.args.places 2 0) (get_or c.args.places 3 0) c.args.w.now c.args.x.now c.args.y.now c.args.z.now _ _ _ _
-    c.two_lost-in-default.ensures.one
-    c.two_lost-in-default.ensures.two
-    (there hs (get_or c.args.places 0 0) 2 _ c.two_lost-in-default.ensures.k (omega arith))
-    (there hs (get_or c.args.places 1 0) 3 _ c.two_lost-in-default.ensures.l (omega arith))
+    c.two_lost-in_default.ensures.one
+    c.two_lost-in_default.ensures.two
+    (there hs (get_or c.args.places 0 0) 2 _ c.two_lost-in_default.ensures.k (omega arith))
+    (there hs (get_or c.args.places 1 0) 3 _ c.two_lost-in_default.ensures.l (omega arith))

@@ -13,10 +13,10 @@ returns-then-wanted-p c =
       qr = omega arith;
       rs = omega arith;
       s6 = omega arith;
-      gx = good (length c.args.w.now) c.args.w.now refl c.type-inv.w;
-      gy = good (length c.args.w.now) c.args.x.now (omega arith) c.type-inv.x;
-      gz = good (length c.args.w.now) c.args.y.now (omega arith) c.type-inv.y;
-      gw = good (length c.args.w.now) c.args.z.now (omega arith) c.type-inv.z;
+      gx = good (length c.args.w.now) c.args.w.now refl c.type_inv.w;
+      gy = good (length c.args.w.now) c.args.x.now (omega arith) c.type_inv.x;
+      gz = good (length c.args.w.now) c.args.y.now (omega arith) c.type_inv.y;
+      gw = good (length c.args.w.now) c.args.z.now (omega arith) c.type_inv.z;
     } in
     c.copy_from_slice.ensures.after ∙ is_first (get_or c.args.places 0 0) (get_or c.args.places 1 0) (get_or c.args.places 2 0) (get_or c.args.places 3 0) (length c.args.w.now) c.args.w.now c.args.x.now c.args.y.now c.args.z.now four c.args.wanted c.if-wanted-p.true
 
@@ -28,10 +28,10 @@ returns-then-wanted-q c =
       qr = omega arith;
       rs = omega arith;
       s6 = omega arith;
-      gx = good (length c.args.w.now) c.args.w.now refl c.type-inv.w;
-      gy = good (length c.args.w.now) c.args.x.now (omega arith) c.type-inv.x;
-      gz = good (length c.args.w.now) c.args.y.now (omega arith) c.type-inv.y;
-      gw = good (length c.args.w.now) c.args.z.now (omega arith) c.type-inv.z;
+      gx = good (length c.args.w.now) c.args.w.now refl c.type_inv.w;
+      gy = good (length c.args.w.now) c.args.x.now (omega arith) c.type_inv.x;
+      gz = good (length c.args.w.now) c.args.y.now (omega arith) c.type_inv.y;
+      gw = good (length c.args.w.now) c.args.z.now (omega arith) c.type_inv.z;
     } in
     c.copy_from_slice-then-wanted-q.ensures.after ∙ is_second (get_or c.args.places 0 0) (get_or c.args.places 1 0) (get_or c.args.places 2 0) (get_or c.args.places 3 0) (length c.args.w.now) c.args.w.now c.args.x.now c.args.y.now c.args.z.now four c.args.wanted c.if-wanted-q.true
 
@@ -43,10 +43,10 @@ returns-then-wanted-r c =
       qr = omega arith;
       rs = omega arith;
       s6 = omega arith;
-      gx = good (length c.args.w.now) c.args.w.now refl c.type-inv.w;
-      gy = good (length c.args.w.now) c.args.x.now (omega arith) c.type-inv.x;
-      gz = good (length c.args.w.now) c.args.y.now (omega arith) c.type-inv.y;
-      gw = good (length c.args.w.now) c.args.z.now (omega arith) c.type-inv.z;
+      gx = good (length c.args.w.now) c.args.w.now refl c.type_inv.w;
+      gy = good (length c.args.w.now) c.args.x.now (omega arith) c.type_inv.x;
+      gz = good (length c.args.w.now) c.args.y.now (omega arith) c.type_inv.y;
+      gw = good (length c.args.w.now) c.args.z.now (omega arith) c.type_inv.z;
     } in
     c.copy_from_slice-then-wanted-r.ensures.after ∙ is_third (get_or c.args.places 0 0) (get_or c.args.places 1 0) (get_or c.args.places 2 0) (get_or c.args.places 3 0) (length c.args.w.now) c.args.w.now c.args.x.now c.args.y.now c.args.z.now four c.args.wanted c.if-wanted-r.true
 
@@ -58,10 +58,10 @@ returns-then-wanted-s c =
       qr = omega arith;
       rs = omega arith;
       s6 = omega arith;
-      gx = good (length c.args.w.now) c.args.w.now refl c.type-inv.w;
-      gy = good (length c.args.w.now) c.args.x.now (omega arith) c.type-inv.x;
-      gz = good (length c.args.w.now) c.args.y.now (omega arith) c.type-inv.y;
-      gw = good (length c.args.w.now) c.args.z.now (omega arith) c.type-inv.z;
+      gx = good (length c.args.w.now) c.args.w.now refl c.type_inv.w;
+      gy = good (length c.args.w.now) c.args.x.now (omega arith) c.type_inv.x;
+      gz = good (length c.args.w.now) c.args.y.now (omega arith) c.type_inv.y;
+      gw = good (length c.args.w.now) c.args.z.now (omega arith) c.type_inv.z;
     } in
     c.copy_from_slice-then-wanted-s.ensures.after ∙ is_fourth (get_or c.args.places 0 0) (get_or c.args.places 1 0) (get_or c.args.places 2 0) (get_or c.args.places 3 0) (length c.args.w.now) c.args.w.now c.args.x.now c.args.y.now c.args.z.now four c.args.wanted c.if-wanted-s.true
 
@@ -73,9 +73,9 @@ returns-else-wanted-s c =
       qr = omega arith;
       rs = omega arith;
       s6 = omega arith;
-      gx = good (length c.args.w.now) c.args.w.now refl c.type-inv.w;
-      gy = good (length c.args.w.now) c.args.x.now (omega arith) c.type-inv.x;
-      gz = good (length c.args.w.now) c.args.y.now (omega arith) c.type-inv.y;
-      gw = good (length c.args.w.now) c.args.z.now (omega arith) c.type-inv.z;
+      gx = good (length c.args.w.now) c.args.w.now refl c.type_inv.w;
+      gy = good (length c.args.w.now) c.args.x.now (omega arith) c.type_inv.x;
+      gz = good (length c.args.w.now) c.args.y.now (omega arith) c.type_inv.y;
+      gw = good (length c.args.w.now) c.args.z.now (omega arith) c.type_inv.z;
     } in
     c.fill_lost.ensures ∙ is_lost (get_or c.args.places 0 0) (get_or c.args.places 1 0) (get_or c.args.places 2 0) (get_or c.args.places 3 0) (length c.args.w.now) c.args.w.now c.args.x.now c.args.y.now c.args.z.now four c.args.wanted (omega arith) c.if-wanted-p.false c.if-wanted-q.false c.if-wanted-r.false c.if-wanted-s.false

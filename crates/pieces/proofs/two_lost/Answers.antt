@@ -16,10 +16,10 @@ returns c =
       qr = omega arith;
       rs = omega arith;
       s6 = omega arith;
-      gx = good (length c.args.w.now) c.args.w.now refl c.type-inv.w;
-      gy = good (length c.args.w.now) c.args.x.now (omega arith) c.type-inv.x;
-      gz = good (length c.args.w.now) c.args.y.now (omega arith) c.type-inv.y;
-      gw = good (length c.args.w.now) c.args.z.now (omega arith) c.type-inv.z;
+      gx = good (length c.args.w.now) c.args.w.now refl c.type_inv.w;
+      gy = good (length c.args.w.now) c.args.x.now (omega arith) c.type_inv.x;
+      gz = good (length c.args.w.now) c.args.y.now (omega arith) c.type_inv.y;
+      gw = good (length c.args.w.now) c.args.z.now (omega arith) c.type_inv.z;
     } in
     let i = c.args.first in
     let j = c.args.second in

@@ -11,8 +11,8 @@ pub loop-k-init : goal.loop-k-init
 unfolding by
 loop-k-init c = refl
 
-pub overflow-mul-sum : goal.overflow-mul-sum
-overflow-mul-sum c = let h = at_most (c.args.c / 2 ^ (7 - c.loop-k.k)) c.args.x in search (rules, h)
+pub overflow_mul-sum : goal.overflow_mul-sum
+overflow_mul-sum c = let h = at_most (c.args.c / 2 ^ (7 - c.loop-k.k)) c.args.x in search (rules, h)
 
 pub loop-k-preserved : goal.loop-k-preserved
 loop-k-preserved c =

@@ -6,9 +6,9 @@ pub returns-in-MakeRoom : goal.returns-in-MakeRoom
 unfolding core
 returns-in-MakeRoom c = search rules
 
-pub returns-in-default : goal.returns-in-default
+pub returns-in_default : goal.returns-in_default
 unfolding core
-returns-in-default c = search rules
+returns-in_default c = search rules
 
 pub returns-in-Get : goal.returns-in-Get
 unfolding core

@@ -49,6 +49,6 @@ pub returns-in-13 : goal.returns-in-13
 unfolding lost_row inverse dot times by double
 returns-in-13 c = arm c.args.w.now c.args.x.now c.args.y.now c.args.z.now c.args.wanted c.args.other 3 1 (row 122 244 167 221) (omega arith) (omega arith) refl c.blend-in-13.ensures
 
-pub returns-in-default : goal.returns-in-default
+pub returns-in_default : goal.returns-in_default
 unfolding lost_row inverse dot times by double
-returns-in-default c = arm c.args.w.now c.args.x.now c.args.y.now c.args.z.now c.args.wanted c.args.other 3 2 (row 201 142 244 61) (omega arith) (omega arith) refl c.blend-in-default.ensures
+returns-in_default c = arm c.args.w.now c.args.x.now c.args.y.now c.args.z.now c.args.wanted c.args.other 3 2 (row 201 142 244 61) (omega arith) (omega arith) refl c.blend-in_default.ensures

@@ -17,6 +17,6 @@ pub returns-in-2 : goal.returns-in-2
 unfolding lost_row inverse dot times by double
 returns-in-2 c = arm c.args.w.now c.args.x.now c.args.y.now c.args.z.now 4 c.args.other 4 2 (row 70 143 3 71) refl (omega arith) refl c.blend-in-2.ensures
 
-pub returns-in-default : goal.returns-in-default
+pub returns-in_default : goal.returns-in_default
 unfolding lost_row inverse dot times by double
-returns-in-default c = arm c.args.w.now c.args.x.now c.args.y.now c.args.z.now 4 c.args.other 4 3 (row 172 70 143 173) refl (omega arith) refl c.blend-in-default.ensures
+returns-in_default c = arm c.args.w.now c.args.x.now c.args.y.now c.args.z.now 4 c.args.other 4 3 (row 172 70 143 173) refl (omega arith) refl c.blend-in_default.ensures

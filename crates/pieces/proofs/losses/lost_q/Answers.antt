@@ -21,6 +21,6 @@ pub returns-in-3 : goal.returns-in-3
 unfolding lost_row inverse dot times by double
 returns-in-3 c = arm c.args.w.now c.args.x.now c.args.y.now c.args.z.now 5 c.args.other 5 3 (row 9 10 12 8) refl (omega arith) refl c.blend-in-3.ensures
 
-pub returns-in-default : goal.returns-in-default
+pub returns-in_default : goal.returns-in_default
 unfolding lost_row inverse dot times by double
-returns-in-default c = arm c.args.w.now c.args.x.now c.args.y.now c.args.z.now 5 c.args.other 5 4 (row 1 2 4 8) refl (omega arith) refl c.blend-in-default.ensures
+returns-in_default c = arm c.args.w.now c.args.x.now c.args.y.now c.args.z.now 5 c.args.other 5 4 (row 1 2 4 8) refl (omega arith) refl c.blend-in_default.ensures

@@ -17,6 +17,6 @@ pub returns-in-2 : goal.returns-in-2
 unfolding lost_row inverse dot times by double
 returns-in-2 c = arm c.args.w.now c.args.x.now c.args.y.now c.args.z.now c.args.wanted 4 2 4 (row 71 142 2 71) (omega arith) refl refl c.blend-in-2.ensures
 
-pub returns-in-default : goal.returns-in-default
+pub returns-in_default : goal.returns-in_default
 unfolding lost_row inverse dot times by double
-returns-in-default c = arm c.args.w.now c.args.x.now c.args.y.now c.args.z.now c.args.wanted 4 3 4 (row 173 71 142 173) (omega arith) refl refl c.blend-in-default.ensures
+returns-in_default c = arm c.args.w.now c.args.x.now c.args.y.now c.args.z.now c.args.wanted 4 3 4 (row 173 71 142 173) (omega arith) refl refl c.blend-in_default.ensures

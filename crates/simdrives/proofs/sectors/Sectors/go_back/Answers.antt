@@ -38,5 +38,5 @@ loop-before-preserved c =
 pub returns : goal.returns
 returns c =
     let v = c.pop.new.self in
-    let n : length (vec_items v) ≡ 0 = omega (arith, v.ok.0, c.in-default.ensures.cases.1) in
+    let n : length (vec_items v) ≡ 0 = omega (arith, v.ok.0, c.in_default.ensures.cases.1) in
     cut_all (drive_of c.args.self.now) (holds_at c.loop-before.self) (vec_items v) (none_left (vec_items v) n) c.loop-before.invariant.0
