@@ -5,7 +5,7 @@ use Rattle.fills.proofs.Sizes.{sized_step, sized_stop, sized_over, sized_none}
 use Rattle.fills.proofs.total.Goals as goal
 
 pub returns-in_err-total : goal.returns-in_err-total
-returns-in_err-total c = c.from-residual.ensures ∙ sym (sized_stop c.args.fields.now c.loop-field.field-index c.loop-field.total c.loop-field-test.true c.in_err-total.ensures) ∙ c.loop-field.invariant.0
+returns-in_err-total c = c.from_residual.ensures ∙ sym (sized_stop c.args.fields.now c.loop-field.field-index c.loop-field.total c.loop-field-test.true c.in_err-total.ensures) ∙ c.loop-field.invariant.0
 
 pub returns-then-total : goal.returns-then-total
 returns-then-total c =

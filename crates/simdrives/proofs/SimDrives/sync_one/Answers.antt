@@ -13,8 +13,8 @@ returns-then-drive-len c =
     let i = c.args.drive in
     let e : ds ≡ es = ap (λ s. vec_items s.drives) c.carries_on.ensures.after in
     let k : i < length ds = omega (arith, v.ok.0, c.len.ensures) in
-    let x = c.index-mut.result.now in
-    let was : slots es i ≡ slot_of c.replace-slot.result = ap (λ zs. slots zs i) (sym e) ∙ (at_slot ds i x k c.index-mut.ensures.value ∙ ap slot_of (sym c.replace-slot.ensures.value)) in
+    let x = c.index_mut.result.now in
+    let was : slots es i ≡ slot_of c.replace-slot.result = ap (λ zs. slots zs i) (sym e) ∙ (at_slot ds i x k c.index_mut.ensures.value ∙ ap slot_of (sym c.replace-slot.ensures.value)) in
     record { on = ap (λ s. s.power) c.carries_on.ensures.after; drives = when_on _ _ _ _ (ap (λ s. works s.power) c.carries_on.ensures.after ∙ sym c.if-not-carries_on.ensures.test) (changed ds es i _ _ _ e k (c.synced.ensures ∙ ap synced_one (sym was))) }
 
 pub returns-else-drive-len : goal.returns-else-drive-len
