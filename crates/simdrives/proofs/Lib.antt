@@ -1,3 +1,2 @@
 pub mod Undone
-pub mod Kept
 pub mod Slotted

@@ -4,4 +4,4 @@ use Rattle.simdrives.specs.Sims.{slots}
 use Rattle.simdrives.proofs.SimDrives.new.Given as goal
 
 abbrev pub invariant-loop-i : goal.invariant-loop-i
-invariant-loop-i l = (vec_len l.drives ≡ l.-i) × ((k : ℕ) → k < l.-i → slots (vec_items l.drives) k ≡ there blank_drive)
+invariant-loop-i l = (vec_len l.drives ≡ l._i) × ((k : ℕ) → k < l._i → slots (vec_items l.drives) k ≡ there blank_drive)
