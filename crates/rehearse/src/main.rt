@@ -1,11 +1,10 @@
 // Plays scripts on drives in memory, over the machine and the loop of the real program.
 #![tactic(auto)]
 
-mod answers;
 mod machine;
 mod rehearsal;
+mod words;
 
-use answers::answer_text;
 use console::{Text, TextLine};
 use machine::MOST_LENT;
 use rehearsal::Rehearsal;
@@ -13,6 +12,7 @@ use simdrives::SimDrives;
 use std::fs::File;
 use std::io::{BufRead, BufReader, Write};
 use std::{env, io};
+use words::answer_text;
 
 // Each line of a script is answered before the next is read.
 fn play_on<R: BufRead>(

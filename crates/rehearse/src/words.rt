@@ -14,7 +14,7 @@ fn say(out: &mut Vec<u8>, text: &[u8]) -> Result<(), AllocError> {
 }
 
 fn say_number(out: &mut Vec<u8>, n: u64) -> Result<(), AllocError> {
-    let heap = out.allocator();
+    let heap = *out.allocator();
     let text = format!(in heap; "{n}")?;
     say(out, text.as_bytes())
 }
