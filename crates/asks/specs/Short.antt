@@ -1,6 +1,6 @@
 -- Which calls of the code a line can hold.
 -- Assumes nothing.
-use Rattle.std.specs.Prelude.{ℕ, ◌+◌, Bool, true, false, ◌&&◌, List, [], ◌∷◌, length, nat_lt}
+use Rattle.std.specs.Prelude.{◌+◌, Bool, true, false, ◌&&◌, List, [], ◌∷◌, length, nat_lt}
 use Rattle.meaning.specs.Lists.{Name, every}
 use Rattle.lines.specs.Calls.{call_bytes, rule_in, are_many}
 use Rattle.lines.specs.Fits.{is_name}

@@ -1,6 +1,6 @@
 -- Only telling the time is heard.
 -- Assumes nothing.
-use Rattle.std.proofs.Common.{◌≡◌, ℕ, Bool, true, false, cond, not, ◌&&◌, eqb, List, Some, None, Ok, Err, Option, Result, sym, refl, ◌∙◌, subst, arith}
+use Rattle.std.proofs.Common.{◌≡◌, ℕ, Bool, true, false, cond, not, ◌&&◌, eqb, List, Some, None, Ok, Err, Option, Result, refl, subst, arith}
 use Rattle.meaning.specs.Rooms.{Call, MakeRoom, DropRoom, Put, Get, Remove, Look, Versions, Begin, PutPart, Complete, Abort, Hold, SetRules, Tick}
 use Rattle.meaning.specs.Does.{is_tick, small}
 use Rattle.lines.specs.Turns.{number_of}

@@ -1,6 +1,6 @@
 -- The clock keeps to the meaning: the register has the time, and there is nothing else yet.
 -- Assumes nothing.
-use Rattle.std.proofs.Common.{◌≡◌, ℕ, ◌+◌, ◌%◌, ◌<◌, ◌≤◌, Bool, true, false, cond, ◌&&◌, ltb, List, [], Ok, Err, Result, sym, refl, ap, ◌∙◌, subst, arith}
+use Rattle.std.proofs.Common.{◌≡◌, ℕ, ◌<◌, Bool, true, false, ◌&&◌, ltb, List, [], Ok, Err, Result, sym, refl, ap, ◌∙◌, subst, arith}
 use mathlib.Core.Path.{subst⁻¹}
 use Rattle.std.proofs.lemmas.Bool.Decides.{nat_tests as tests}
 use Rattle.drives.specs.Machines.{DoneOrNot}
@@ -15,12 +15,8 @@ use Rattle.meaning.specs.Rooms as meaning
 use Rattle.meaning.specs.Does.{does, acts, is_tick, small, later, down}
 use Rattle.lines.specs.Order.{only_time, heard, tag_of, carried_out}
 use Rattle.promise.specs.Promise as promise
-use Rattle.clock.specs.declared.Told.{Told}
-use Rattle.clock.specs.declared.Said.TheVariants.{No, Yes}
-use Rattle.lines.specs.Turns.{number_of}
-use Rattle.lines.specs.declared.order.Refusal.TheVariants.{Wrong}
 use Rattle.clock.specs.Clock.{tells_if, answers_to}
-use Rattle.clock.specs.Spelled.{refusal_of, heard_as, Written, told_bytes, retold, clock, ClockKeeps}
+use Rattle.clock.specs.Spelled.{heard_as, Written, told_bytes, retold, clock, ClockKeeps}
 use Rattle.clock.proofs.Hearing.{heard_ticks, heard_number}
 
 -- the state of a house in which only times were told

@@ -5,13 +5,11 @@ use Rattle.drives.specs.Layers.{Plan, gives, asks, Layer}
 use Rattle.steps.specs.Stacks.{Asked as Wants, Planning}
 use Rattle.steps.specs.declared.Next.{Next}
 use Rattle.steps.specs.declared.Next.TheVariants as next
-use Rattle.register.specs.declared.Payload.{Payload}
 use Rattle.register.specs.declared.Call.{Call}
 use Rattle.register.specs.declared.Call.TheVariants.{Set, Get}
 use Rattle.register.specs.declared.Reply.{Reply}
 use Rattle.register.specs.declared.Reply.TheVariants.{Done, Is}
 use Rattle.meaning.specs.Does.{small, later}
-use Rattle.lines.specs.declared.order.Refusal.{Refusal}
 use Rattle.lines.specs.declared.order.Refusal.TheVariants.{Wrong}
 use Rattle.clock.specs.declared.Heard.{Heard}
 use Rattle.clock.specs.declared.Heard.TheVariants.{Refused, Tells}

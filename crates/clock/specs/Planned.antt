@@ -1,6 +1,6 @@
 -- The clock's code is the plan to be read; and so it is where it is asked and answered by lines.
 -- Assumes nothing.
-use Rattle.std.specs.Prelude.{◌≡◌, ℕ, suc, Bool, true, false, cond, ◌&&◌, List, Some, None, nat_lt, refl}
+use Rattle.std.specs.Prelude.{◌≡◌, ℕ, Bool, true, false, cond, ◌&&◌, None, nat_lt, refl}
 use Rattle.std.proofs.Common.{ap, subst}
 use Rattle.drives.specs.Layers.{Plan}
 use Rattle.steps.specs.Stacks.{Asked as Wants, Plans, Planned}
@@ -10,9 +10,8 @@ use Rattle.meaning.specs.Does.{small, later}
 use Rattle.lines.specs.Order.{tag_of}
 use Rattle.clock.specs.declared.Heard.{Heard}
 use Rattle.clock.specs.declared.Heard.TheVariants.{Refused, Tells}
-use Rattle.clock.specs.declared.Told.{Told}
 use Rattle.clock.specs.declared.Phase.TheVariants.{Begun, Setting, Over}
-use Rattle.clock.specs.declared.Said.TheVariants.{No, Yes}
+use Rattle.clock.specs.declared.Said.TheVariants.{No}
 use Rattle.clock.specs.declared.Clock.{Clock}
 use Rattle.lines.specs.declared.order.Refusal.TheVariants.{Wrong}
 use Rattle.register.specs.declared.Call.TheVariants.{Set}

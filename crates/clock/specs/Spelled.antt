@@ -1,6 +1,6 @@
 -- The clock as lines of bytes see it: what is heard of a line, and the line that answers it.
 -- Assumes nothing.
-use Rattle.std.specs.Prelude.{ℕ, Bool, cond, List, Some, None, Ok, Err, Option, Result, ◌==◌}
+use Rattle.std.specs.Prelude.{ℕ, cond, List, Ok, Err, Result, ◌==◌}
 use Rattle.drives.specs.Layers.{Plan, gives, asks, Layer, KeepsAbove}
 use Rattle.steps.specs.Stacks.{Planning}
 use Rattle.register.specs.declared.Call.{Call}

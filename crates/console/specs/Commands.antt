@@ -1,6 +1,6 @@
 -- Lines of text, and what they are: the commands of both programs.
 -- Assumes nothing.
-use Rattle.std.specs.Prelude.{◌≡◌, ℕ, ◌+◌, ◌-◌, ◌*◌, ◌/◌, ◌%◌, ◌^◌, ◌<◌, ◌≤◌, min, Bool, true, false, cond, ◌&&◌, List, [], ◌∷◌, ◌++◌, length, take, drop, codes, ◌==◌, slice_index}
+use Rattle.std.specs.Prelude.{◌≡◌, ℕ, ◌-◌, ◌<◌, ◌≤◌, Bool, true, false, cond, ◌&&◌, List, [], ◌∷◌, length, take, drop, codes, ◌==◌, slice_index}
 use Rattle.std.specs.Char.{is_ascii_whitespace}
 use Rattle.console.specs.Hex.{line_of, Lays, number_of}
 use Rattle.console.specs.declared.Command.{Command}

@@ -4,12 +4,12 @@ use mathlib.Core.Path.{◌≡◌, refl, subst, subst⁻¹}
 use mathlib.Core.Logic.{◌⊎◌, inl, inr}
 use mathlib.Core.Bool.{Bool, true, false, cond, true≢false}
 use mathlib.Core.List.Memᴰ
-use mathlib.Core.List.{List, [], ◌∷◌, Memᴰ}
+use mathlib.Core.List.{List, ◌∷◌, Memᴰ}
 use Prim.Native.Nat.{ℕ, zero, suc}
 use native.Mathlib.Omega.{arith}
 use lib.Dec.{T, eqb}
 use lib.ListN.{length}
-use Rattle.drives.specs.Drives.{zeros, all_bytes, blank_drive, Slot, gone, there, Drives, shown, written_to, synced_one, latest, put, CutSlot, nothing, cut, AfterCut, Io, run, Upto, Fair}
+use Rattle.drives.specs.Drives.{zeros, all_bytes, blank_drive, Slot, gone, there, Drives, shown, written_to, synced_one, put, CutSlot, nothing, cut, AfterCut, Io, run, Upto, Fair}
 use Rattle.drives.specs.Machines.{is_gone}
 use Rattle.crash.specs.RefinementBy.{IsSector, WholeSlot, no_drive, sectors, Whole}
 use Rattle.crash.proofs.Updates.{put_elim}

@@ -1,6 +1,6 @@
 -- What a machine on six drives is shown by, where mending ends within fewer stretches than a drive has sectors, and where drives hold whole sectors.
 -- Assumes nothing.
-use Rattle.std.specs.Prelude.{◌≡◌, Bool, false, ℕ, suc, ◌<◌, ◌≤◌, T, length}
+use Rattle.std.specs.Prelude.{◌≡◌, false, ℕ, suc, ◌<◌, ◌≤◌, T, length}
 use mathlib.Core.List.{List, [], ◌∷◌, Memᴰ}
 use Rattle.drives.specs.Drives.{smallest, largest, blank_drive, Drive, Slot, gone, there, Drives, put, all_bytes, Fair, ops_of}
 use Rattle.drives.specs.Machines.{longest, Machine, Judge, without, weak_after, KeepsBy, Within}

@@ -1,7 +1,7 @@
 -- Layers compose: whatever a layer over a machine can show, it can show over the judge that the machine keeps to.
 -- Assumes nothing.
 use mathlib.Core.Path.{◌≡◌, refl, subst⁻¹, ◌∙◌}
-use mathlib.Core.Logic.{◌⊎◌, inl, inr}
+use mathlib.Core.Logic.{inl, inr}
 use mathlib.Core.Bool.{Bool}
 use mathlib.Core.List.{List, [], ◌∷◌}
 use Prim.Native.Nat.{ℕ}

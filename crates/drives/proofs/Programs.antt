@@ -2,9 +2,8 @@
 -- Assumes nothing.
 use mathlib.Core.Path.{◌≡◌, refl, subst, ap}
 use mathlib.Core.Logic.{◌⊎◌, inl, inr}
-use mathlib.Core.List.{List}
 use Prim.Native.Nat.{ℕ, ◌+◌}
-use Rattle.drives.specs.Drives.{Drives, Io, Ran, run, Upto, then', put, shown, written_to, synced_one, Fair, ops_of}
+use Rattle.drives.specs.Drives.{Drives, Io, run, Upto, then', put, shown, written_to, synced_one, Fair, ops_of}
 
 pub run_then : {A B : Type 0} (p : Io A) (f : A → Io B) (d : Drives) → run (then' p f) d ≡ run (f (run p d).value) (run p d).drives
 unfolding run then'

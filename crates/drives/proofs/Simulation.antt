@@ -5,7 +5,7 @@ use Prim.Native.Nat.{ℕ, ◌≤◌}
 use Rattle.drives.specs.Drives.{smallest, largest}
 use Rattle.drives.specs.Machines.{Judge}
 use Rattle.drives.specs.Layers.{Layer, AboveEvent, Stands, Above, AllowedAbove, KeepsAbove}
-use Rattle.drives.specs.Simulation.{Holds, Showing, ShownKeeps}
+use Rattle.drives.specs.Simulation.{Holds, ShownKeeps}
 
 module _ {C R C' R' : Type 0} {j : Judge C R} {j' : Judge C' R'} {l : Layer C R C' R'} {size : ℕ} {Off : j.State → j'.State → Type 0} {On : l.Mem → j.State → j'.State → Type 0} (h : Holds j j' l size Off On) where
   abbrev Between : Stands j l → j'.State → Type 0

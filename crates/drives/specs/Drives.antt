@@ -1,6 +1,6 @@
 -- Drives and their sectors, what a power cut leaves of them, and programs that use them.
 -- Assumes nothing.
-use Rattle.std.specs.Prelude.{◌≡◌, ◌⊎◌, Bool, true, false, cond, ◌&&◌, ℕ, zero, suc, ◌+◌, ◌<◌, eqb, ltb, T, length}
+use Rattle.std.specs.Prelude.{◌≡◌, ◌⊎◌, Bool, true, cond, ◌&&◌, ℕ, zero, suc, ◌+◌, ◌<◌, eqb, ltb, T, length}
 use mathlib.Core.List.{List, [], ◌∷◌, Memᴰ}
 
 -- A drive has from 4 MiB to 512 TiB, in sectors of 512 bytes.

@@ -1,6 +1,5 @@
 -- The same calls and replies in other words.
 -- Assumes nothing.
-use Rattle.std.specs.Prelude.{◌≡◌}
 use Rattle.drives.specs.Machines.{Judge}
 use Rattle.drives.specs.Layers.{gives, asks, Layer}
 

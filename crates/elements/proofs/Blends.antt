@@ -1,6 +1,6 @@
 -- Four vectors blended by four coefficients, one bit of the coefficients after the other.
 -- Assumes nothing.
-use Rattle.std.proofs.Common.{◌≡◌, ℕ, zero, suc, ◌+◌, ◌-◌, ◌*◌, ◌/◌, ◌%◌, ◌^◌, ◌<◌, ◌≤◌, List, [], ◌∷◌, map, length, replicate, sym, refl, ap, ◌∙◌, subst, one-mul, zero-mul, arith}
+use Rattle.std.proofs.Common.{◌≡◌, ℕ, zero, suc, ◌+◌, ◌-◌, ◌*◌, ◌/◌, ◌%◌, ◌^◌, ◌<◌, List, [], ◌∷◌, map, length, replicate, refl, ap, ◌∙◌, subst, one-mul, zero-mul, arith}
 use native.Mathlib.Nat.{suc_inj}
 use lib.Bits.{bit_xor}
 use lib.Lanes.{zip2}

@@ -1,6 +1,6 @@
 -- A piece that is written from its start on: one vector more, one byte more, and its end.
 -- Assumes nothing.
-use Rattle.std.proofs.Common.{◌≡◌, ℕ, zero, suc, ◌+◌, ◌*◌, ◌/◌, ◌<◌, ◌≤◌, List, [], ◌∷◌, ◌++◌, length, get_or, take, drop, set, sym, refl, ap, ◌∙◌, subst, arith, take_all, take-add}
+use Rattle.std.proofs.Common.{◌≡◌, ℕ, zero, suc, ◌+◌, ◌<◌, ◌≤◌, List, [], ◌∷◌, ◌++◌, length, get_or, take, drop, set, sym, refl, ap, ◌∙◌, subst, arith, take_all, take-add}
 use lib.Lanes.{chunk}
 use Rattle.std.proofs.lemmas.List.{take_more, take_more_set}
 use Rattle.field.specs.Field.{map4, first, rest}

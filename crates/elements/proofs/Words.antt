@@ -1,6 +1,6 @@
 -- What a vector's operations do to each of its lanes.
 -- Assumes nothing.
-use Rattle.std.proofs.Common.{◌≡◌, ℕ, zero, suc, ◌+◌, ◌-◌, ◌*◌, ◌/◌, ◌%◌, ◌^◌, ◌<◌, ◌≤◌, T, eqb, List, [], ◌∷◌, map, length, replicate, sym, refl, ap, ◌∙◌, subst, arith, eqb→eq, w8, Fits}
+use Rattle.std.proofs.Common.{◌≡◌, ℕ, zero, suc, ◌+◌, ◌-◌, ◌/◌, ◌%◌, ◌^◌, ◌<◌, T, eqb, List, [], ◌∷◌, map, length, replicate, refl, ap, ◌∙◌, arith, eqb→eq, w8, Fits}
 use native.Mathlib.Nat.{suc_inj}
 use lib.Bits.{bit_xor, bit_and}
 use lib.Lanes.{zip2, Each1}

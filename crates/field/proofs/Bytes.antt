@@ -1,12 +1,12 @@
 -- Facts of single bytes: multiplication is linear, and any four rows of six are undone.
 use Prim.Native.Nat.{ℕ, zero, suc, ◌+◌, ◌-◌, ◌*◌, ◌/◌, ◌%◌, ◌^◌, ◌<◌, ◌≤◌}
-use native.Mathlib.Nat.{not-suc-le-zero, mod-lt, zero-mul, one-mul, pow-suc}
+use native.Mathlib.Nat.{not-suc-le-zero, zero-mul, one-mul, pow-suc}
 use native.Mathlib.Omega.{arith}
 use mathlib.Core.Path.{◌≡◌, refl, sym, ◌∙◌, ap, subst}
 use mathlib.Core.Logic.{◌⊎◌, inl, inr}
 use mathlib.Core.Bool.{Bool, true, false, cond}
-use lib.Bits.{bit_xor, xor_lt, xor_assoc, xor_comm, xor_zero_r, xor_zero_l, xor_shifted}
-use lib.Dec.{eqb, ltb, T, eqb→eq, ltb→lt, lt→ltb}
+use lib.Bits.{bit_xor, xor_lt, xor_assoc, xor_comm, xor_zero_r, xor_shifted}
+use lib.Dec.{eqb, ltb, T, eqb→eq, ltb→lt}
 use Rattle.field.specs.Field.{double, by, times, Row, dot}
 
 -- the test f passes at each number below n

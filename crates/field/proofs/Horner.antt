@@ -1,12 +1,12 @@
 -- The bytes of the two parities as sums and doublings, and products bit by bit.
 -- Assumes nothing.
-use Prim.Native.Nat.{ℕ, zero, suc, ◌+◌, ◌-◌, ◌*◌, ◌/◌, ◌%◌, ◌^◌, ◌<◌, ◌≤◌}
+use Prim.Native.Nat.{ℕ, suc, ◌+◌, ◌-◌, ◌*◌, ◌/◌, ◌%◌, ◌^◌, ◌<◌}
 use native.Mathlib.Omega.{arith}
-use mathlib.Core.Path.{◌≡◌, refl, sym, ◌∙◌, ap}
+use mathlib.Core.Path.{◌≡◌, sym, ◌∙◌, ap}
 use native.Mathlib.Nat.{div-div-eq-div-mul, pow-suc, div-one}
 use native.Mathlib.Numerals.{add-one}
 use lib.Bits.{bit_xor, xor_lt}
-use Rattle.field.specs.Field.{double, by, times, Row, row, dot, partial}
+use Rattle.field.specs.Field.{double, by, times, Row, dot, partial}
 use Rattle.field.specs.Stripe.{generator}
 use Rattle.field.proofs.Bytes.{below, test, test1, Lin, dot_lin, agree, double_lt, double_xor, by_lt, swap, first_lin, second_lin, third_lin, fourth_lin}
 

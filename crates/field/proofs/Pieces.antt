@@ -1,17 +1,17 @@
 -- Lists of bytes, place by place.
-use Prim.Native.Nat.{ℕ, zero, suc, ◌+◌, ◌*◌, ◌<◌, ◌≤◌}
+use Prim.Native.Nat.{ℕ, zero, suc, ◌<◌, ◌≤◌}
 use native.Mathlib.Omega.{arith}
 use mathlib.Core.Path.{◌≡◌, refl, sym, ◌∙◌, ap, subst}
-use mathlib.Core.Bool.{Bool, true, false, cond, ◌&&◌}
+use mathlib.Core.Bool.{Bool, true, false, ◌&&◌}
 use mathlib.Core.List.{List, [], ◌∷◌}
 use lib.Dec.{eqb, ltb, T, lt→ltb, ltb→lt, eqb→eq, eqb_refl}
 use lib.ListN.{length}
-use Rattle.field.specs.Code.{lengths, At, here, there, Among, no_more, one_more, AnyFour}
+use Rattle.field.specs.Code.{lengths, At, here, there, Among, one_more, AnyFour}
 use Rattle.meaning.specs.Lists.{every}
 use Rattle.field.specs.Field.{double, by, times, Row, dot, map4, first, rest}
-use Rattle.field.specs.Stripe.{Rows, generator, inverse, key_of, encoded, inverted, decoded, four_of_six, Held, piece_at, rebuilt, RebuildsSame, zeros, ZerosStay}
+use Rattle.field.specs.Stripe.{generator, inverse, key_of, encoded, inverted, decoded, four_of_six, piece_at, RebuildsSame, zeros, ZerosStay}
 use Rattle.field.proofs.Bytes.{Lin, dot_lin, below, test, test1, agree, first_lin, second_lin, third_lin, fourth_lin}
-use Rattle.field.proofs.Undone.{after, Is, Undone, undone}
+use Rattle.field.proofs.Undone.{after, Is, undone}
 
 -- n bytes
 abbrev pub Good : ℕ → List ℕ → Type 0

@@ -1,14 +1,14 @@
 -- A piece that is made anew, as one sum of the four held ones: by the row of its place, itself where it is held, and by `lost_row` where it is not.
 -- Assumes nothing.
-use Prim.Native.Nat.{ℕ, zero, suc, ◌+◌, ◌-◌, ◌*◌, ◌<◌, ◌≤◌}
+use Prim.Native.Nat.{ℕ, zero, suc, ◌-◌, ◌<◌}
 use native.Mathlib.Omega.{arith}
 use mathlib.Core.Path.{◌≡◌, refl, sym, ◌∙◌, ap, subst}
 use mathlib.Core.Logic.{◌≢◌}
 use mathlib.Core.Bool.{Bool, true, false, cond}
-use mathlib.Core.List.{List, [], ◌∷◌}
+use mathlib.Core.List.{List}
 use lib.Dec.{eqb, ltb, T, lt→ltb, eqb→eq}
 use Rattle.field.specs.Field.{double, by, times, Row, row, dot, map4}
-use Rattle.field.specs.Stripe.{Rows, generator, inverse, key_of, encoded, decoded, four_held, piece_at, rebuilt, row_by, row_for, key_but, lost_row}
+use Rattle.field.specs.Stripe.{Rows, generator, inverse, key_of, encoded, decoded, four_held, rebuilt, row_by, row_for, key_but, lost_row}
 use Rattle.field.proofs.Bytes.{below, left, right, at, Lin, dot_lin, comp_lin, test1, test, agree, first_lin, second_lin, third_lin}
 use Rattle.field.proofs.Undone.{Is, rises, both}
 use Rattle.field.proofs.Pieces.{Good, comp, same, one, two, three, four, is_one, is_two, is_three, is_four}

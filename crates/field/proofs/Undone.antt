@@ -1,11 +1,10 @@
 -- Any four rows of the six are undone by the rows of `inverse`: one computed test over all choices.
-use Prim.Native.Nat.{ℕ, zero, suc, ◌+◌, ◌*◌, ◌<◌, ◌≤◌}
+use Prim.Native.Nat.{ℕ, ◌<◌}
 use native.Mathlib.Omega.{arith}
-use mathlib.Core.Path.{◌≡◌, refl, sym, ◌∙◌, ap, subst}
+use mathlib.Core.Path.{◌≡◌}
 use mathlib.Core.Bool.{Bool, true, false, cond}
-use lib.Bits.{bit_xor}
-use lib.Dec.{eqb, ltb, T, lt→ltb}
-use Rattle.field.specs.Field.{double, by, times, Row, row, dot}
+use lib.Dec.{ltb, T, lt→ltb}
+use Rattle.field.specs.Field.{double, by, times, Row, dot}
 use Rattle.field.specs.Stripe.{Rows, generator, inverse, key_of}
 use Rattle.field.proofs.Bytes.{below, left, right, at, Lin, dot_lin, comp_lin, test1, test, agree, first_lin, second_lin, third_lin, fourth_lin}
 

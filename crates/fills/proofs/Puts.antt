@@ -1,5 +1,5 @@
 -- Bytes that are put one after the other.
-use Rattle.std.proofs.Common.{◌≡◌, ℕ, ◌+◌, ◌≤◌, List, [], ◌++◌, length, take, drop, sym, refl, ap, ◌∙◌, add-zero, add_assoc, zero-add, arith, length-append}
+use Rattle.std.proofs.Common.{◌≡◌, ℕ, ◌+◌, ◌≤◌, List, [], ◌++◌, length, take, drop, sym, ap, ◌∙◌, add-zero, add_assoc, zero-add, arith, length-append}
 use Rattle.std.proofs.lemmas.List.{append-nil, take-append-drop, append_assoc, take_at, drop_at, drop-drop, length-take-le}
 use Rattle.fills.specs.Fills.{put_at}
 

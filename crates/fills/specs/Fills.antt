@@ -1,9 +1,9 @@
 -- What is written to the front of a buffer.
 -- Assumes nothing.
-use Rattle.std.specs.Prelude.{◌≡◌, ℕ, ◌+◌, ◌^◌, Bool, true, cond, ◌&&◌, List, [], ◌∷◌, ◌++◌, length, take, drop, Some, None, Option, nat_le, nat_lt}
+use Rattle.std.specs.Prelude.{◌≡◌, ℕ, ◌+◌, Bool, true, cond, ◌&&◌, List, ◌++◌, length, take, drop, Some, None, Option, nat_le, nat_lt}
 use Rattle.meaning.specs.Lists.{every}
 use Rattle.lines.specs.Fields.{number}
-use Rattle.lines.specs.Calls.{flag, expected, name, content, many, line_of}
+use Rattle.lines.specs.Calls.{flag, expected, name, content, many}
 use Rattle.lines.specs.Means.{expects}
 use Rattle.fills.specs.declared.Field.{Field}
 use Rattle.fills.specs.declared.Field.TheVariants.{U8, U16, U32, U64, Flag, Expects, Name, Content, Plain}

@@ -1,7 +1,7 @@
 -- A line is answered as what is heard of it.
 -- Assumes nothing.
 use Rattle.std.proofs.Common.{◌≡◌, ℕ, List, sym, ap, ◌∙◌, subst}
-use Rattle.drives.specs.Drives.{Drives, Io, answer, run, Ran, then'}
+use Rattle.drives.specs.Drives.{Drives, Io, answer, run, Ran}
 use Rattle.drives.proofs.Programs.{run_then}
 use Rattle.steps.specs.Steps.{Held, Stepping, first, runs, machine_of}
 use Rattle.steps.specs.Stacks.{stack_of}

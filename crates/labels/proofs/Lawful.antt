@@ -9,7 +9,7 @@ use Rattle.root.specs.Labels.{fits_block, Block, labels}
 use Rattle.root.proofs.Labels.{labels_lawful}
 use Rattle.root.proofs.Root.{root_stands}
 use Rattle.labels.specs.Restricted.{Part, LawfulPart, widened, narrowed, restricted}
-use Rattle.labels.specs.Times.{Time, time_of, eight, number, payload_of, time_in, times, timed, LabelsStand}
+use Rattle.labels.specs.Times.{Time, time_of, number, payload_of, time_in, times, timed, LabelsStand}
 
 apart : ◌≡◌ {A = ℕ} 0 1 → ⊥
 apart z = omega arith

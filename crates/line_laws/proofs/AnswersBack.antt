@@ -1,12 +1,11 @@
 -- Answers: there and back.
-use Rattle.std.proofs.Common.{◌≡◌, ℕ, ◌+◌, ◌<◌, Bool, true, false, cond, eqb, List, [], ◌∷◌, ◌++◌, length, Some, None, Option, sym, refl, ap, ◌∙◌, subst, arith}
+use Rattle.std.proofs.Common.{◌≡◌, ℕ, ◌<◌, Bool, true, false, cond, eqb, List, [], ◌++◌, length, None, Option, sym, refl, ap, subst, arith}
 use Rattle.std.proofs.lemmas.Bool.Decides.{nat_tests}
 use Rattle.meaning.specs.Rooms.{Reply, No, Yes, Num, Got, List', Full}
-use Rattle.lines.specs.Fields.{Took, ◌then◌, number, number_in}
+use Rattle.lines.specs.Fields.{◌then◌, number, number_in}
 use Rattle.lines.specs.Calls.{many, at_end}
-use Rattle.lines.specs.Fits.{Bytes}
 use Rattle.lines.specs.Replies.{entry, reply_bytes, refusal, reply_in, no_in, num_in, got_in, list_in, AnswerFits}
-use Rattle.lines.proofs.Laws.{Laws, Forth, go_on, done, Back, then-back, end_back, none_back, kind_back, number_laws, counted_laws, entry-laws, many_laws}
+use Rattle.lines.proofs.Laws.{Forth, go_on, done, Back, then-back, end_back, none_back, kind_back, number_laws, counted_laws, entry-laws, many_laws}
 
 -- the number of a refusal is one byte
 small : (k : ℕ) → refusal k ≡ true → k < 256

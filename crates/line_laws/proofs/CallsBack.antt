@@ -1,7 +1,7 @@
 -- Calls: there and back.
-use Rattle.std.proofs.Common.{◌≡◌, ℕ, ◌+◌, ◌<◌, cond, eqb, List, [], ◌∷◌, ◌++◌, length, Some, None, Option, sym, refl, ap, ◌∙◌, subst, arith}
+use Rattle.std.proofs.Common.{◌≡◌, ℕ, ◌<◌, cond, eqb, List, [], ◌++◌, length, Option, sym, refl, ap, subst, arith}
 use Rattle.meaning.specs.Rooms.{Call, MakeRoom, DropRoom, Put, Get, Remove, Look, Versions, Begin, PutPart, Complete, Abort, Hold, SetRules, Tick}
-use Rattle.lines.specs.Fields.{Took, ◌then◌, number, number_in}
+use Rattle.lines.specs.Fields.{◌then◌, number, number_in}
 use Rattle.lines.specs.Calls.{call_bytes, fields_in, make_room_in, drop_room_in, put_in, get_in, remove_in, look_in, versions_in, begin_in, part_in, complete_in, abort_in, hold_in, rules_in, time_in, name, name_in, content, content_in, many, rule}
 use Rattle.lines.specs.Fits.{FieldsFit, NameFits, ContentFits}
 use Rattle.lines.proofs.Laws.{Laws, Back, Forth, go_on, done, then-back, end_back, none_back, kind_back, number_laws, counted_laws, flag_laws, expected_laws, rule_laws, many_laws}

@@ -1,12 +1,12 @@
 -- The length and the tag of a line.
-use Rattle.std.proofs.Common.{◌≡◌, ℕ, suc, ◌+◌, ◌^◌, ◌<◌, ◌≤◌, Bool, true, false, cond, eqb, ltb, List, [], ◌∷◌, ◌++◌, length, get_or, drop, Some, None, Option, sym, refl, ap, ◌∙◌, subst, arith}
-use Rattle.std.proofs.lemmas.List.{append-nil, drop_at}
+use Rattle.std.proofs.Common.{◌≡◌, ℕ, suc, ◌+◌, Bool, true, false, cond, eqb, ltb, List, ◌++◌, length, Some, None, Option, sym, refl, ap, ◌∙◌, subst, arith}
+use Rattle.std.proofs.lemmas.List.{append-nil}
 use Rattle.std.proofs.lemmas.Bool.Decides.{nat_tests}
-use Rattle.lines.specs.Fields.{Took, ◌then◌, number, value, number_in}
+use Rattle.lines.specs.Fields.{◌then◌, number, number_in}
 use Rattle.lines.specs.Calls.{line_of}
 use Rattle.lines.specs.Fits.{Bytes, NumberFits}
 use Rattle.lines.specs.Order.{tag_of}
-use Rattle.lines.proofs.Laws.{then_some, then-forth, number_laws, took, value_number, length_number}
+use Rattle.lines.proofs.Laws.{then_some, then-forth, number_laws, value_number}
 
 -- a line, read on behind its tag
 abbrev pub line_in : {B : Type 0} → (ℕ → List ℕ → Option B) → List ℕ → Option B

@@ -1,14 +1,14 @@
 -- The laws of lines.
-use Rattle.std.proofs.Common.{◌≡◌, ℕ, ◌+◌, List, ◌++◌, length, Some, None, Option, sym, refl, ap, ◌∙◌, subst, arith}
-use Rattle.meaning.specs.Rooms.{Call, Reply}
-use Rattle.lines.specs.Fields.{Took, ◌then◌, number, number_in}
+use Rattle.std.proofs.Common.{◌≡◌, ℕ, ◌+◌, List, length, Some, None, Option, sym, ap, ◌∙◌, subst, arith}
+use Rattle.meaning.specs.Rooms.{Reply}
+use Rattle.lines.specs.Fields.{Took, ◌then◌, number_in}
 use Rattle.lines.specs.Calls.{call_bytes, line_of, body_in, fields_in}
-use Rattle.lines.specs.Fits.{Bytes, NumberFits, FieldsFit, CallFits}
+use Rattle.lines.specs.Fits.{NumberFits}
 use Rattle.lines.specs.Order.{tag_of}
-use Rattle.lines.specs.Replies.{Tagged, tagged, reply_bytes, reply_in, AnswerFits, ReplyFits}
-use Rattle.lines.proofs.Laws.{Back, Forth, then_some, number_laws}
+use Rattle.lines.specs.Replies.{Tagged, tagged, reply_bytes, reply_in}
+use Rattle.lines.proofs.Laws.{then_some, number_laws}
 use Rattle.line_laws.specs.Stated.{CallsAreRead, CallsWereWritten, AnswersAreRead, AnswersWereWritten}
-use Rattle.line_laws.proofs.Heads.{Line, line_forth, line_back}
+use Rattle.line_laws.proofs.Heads.{line_forth, line_back}
 use Rattle.line_laws.proofs.CallsBack as calls
 use Rattle.line_laws.proofs.AnswersBack as answers
 

@@ -1,11 +1,11 @@
 -- What is written of a field is read again, and what is read was written so: a law for each field, and how they go on one after the other.
-use Rattle.std.proofs.Common.{◌≡◌, ℕ, zero, suc, ◌+◌, ◌*◌, ◌/◌, ◌%◌, ◌^◌, ◌<◌, ◌≤◌, Bool, true, false, cond, eqb, ltb, ◌⊎◌, List, [], ◌∷◌, ◌++◌, length, get_or, take, drop, Some, None, Option, sym, refl, ap, ◌∙◌, subst, inl, inr, ⊎_elim, mod-lt, div-add-mod', arith, length-append}
+use Rattle.std.proofs.Common.{◌≡◌, ℕ, zero, suc, ◌+◌, ◌*◌, ◌/◌, ◌%◌, ◌^◌, ◌<◌, ◌≤◌, Bool, true, false, cond, eqb, ltb, ◌⊎◌, List, [], ◌∷◌, ◌++◌, length, take, drop, Some, None, Option, sym, refl, ap, ◌∙◌, subst, inl, inr, mod-lt, div-add-mod', arith, length-append}
 use native.Mathlib.Nat.{pow-succ', pow-zero}
 use lib.Arith.{digits_lt, digits_div, digits_mod}
-use Rattle.std.proofs.lemmas.List.{append_assoc, append-nil, take_at, drop_at, take-append-drop, get_or-drop, get_or-take, get_or_past, length-take-le, nil_from_length}
-use Rattle.std.proofs.lemmas.Bool.Decides.{nat_tests, leb_tells, eqb_tells}
+use Rattle.std.proofs.lemmas.List.{append_assoc, append-nil, take_at, drop_at, take-append-drop, get_or-drop, length-take-le, nil_from_length}
+use Rattle.std.proofs.lemmas.Bool.Decides.{nat_tests, eqb_tells}
 use Rattle.lines.specs.Fields.{Took, ◌then◌, number, value, number_in, bytes_in, counted, counted_in}
-use Rattle.meaning.specs.Rooms.{Rule, Expect, Any, Absent, Is}
+use Rattle.meaning.specs.Rooms.{Expect, Any, Absent, Is}
 use Rattle.lines.specs.Calls.{at_end, name, many, many_in, are_many, all_in, whole, listed, flag, flag_of, flag_in, expected, expected_of, expected_in, rule, rule_in}
 use Rattle.lines.specs.Replies.{entry, entry_in, ShownFits}
 use Rattle.lines.specs.Fits.{Bytes, NumberFits, CountedFits, FlagFits, ExpectFits, RuleFits, Each}

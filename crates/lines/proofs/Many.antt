@@ -1,5 +1,5 @@
 -- How many of a kind are read, one by one.
-use Rattle.std.proofs.Common.{◌≡◌, ℕ, suc, ◌+◌, ◌-◌, ◌<◌, ◌≤◌, false, eqb, List, [], ◌∷◌, length, Some, None, Option, sym, refl, ap, ◌∙◌, arith}
+use Rattle.std.proofs.Common.{◌≡◌, ℕ, suc, ◌+◌, ◌-◌, ◌<◌, ◌≤◌, false, eqb, List, ◌∷◌, length, Some, None, Option, sym, refl, ap, ◌∙◌, arith}
 use Rattle.lines.specs.Fields.{Took, ◌then◌}
 use Rattle.lines.specs.Calls.{many_in, are_many, whole}
 

@@ -1,6 +1,6 @@
 -- The calls as bytes: a line is the length of the rest, a tag, and the call; a call is its kind and its fields.
 -- Assumes nothing.
-use Rattle.std.specs.Prelude.{ℕ, zero, suc, ◌+◌, ◌^◌, ◌<◌, ◌≤◌, Bool, true, false, cond, List, [], ◌∷◌, ◌++◌, length, Some, None, Option, ◌==◌}
+use Rattle.std.specs.Prelude.{ℕ, zero, suc, ◌+◌, Bool, true, false, cond, List, [], ◌∷◌, ◌++◌, length, Some, None, Option, ◌==◌}
 use Rattle.meaning.specs.Lists.{Name}
 use Rattle.meaning.specs.Rooms.{Rule, Expect, Any, Absent, Is, Call, MakeRoom, DropRoom, Put, Get, Remove, Look, Versions, Begin, PutPart, Complete, Abort, Hold, SetRules, Tick}
 use Rattle.lines.specs.Fields.{Took, ◌then◌, number, number_in, counted, counted_in}

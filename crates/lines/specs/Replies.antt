@@ -1,6 +1,6 @@
 -- The answers as bytes: a line as a call's, with the tag of its call; an answer is its kind and its fields.
 -- Assumes nothing.
-use Rattle.std.specs.Prelude.{◌≡◌, ℕ, ◌+◌, ◌<◌, Bool, true, cond, ◌&&◌, ◌||◌, List, [], ◌∷◌, length, Some, None, Option, ◌==◌, nat_le}
+use Rattle.std.specs.Prelude.{◌≡◌, ℕ, ◌+◌, Bool, true, cond, ◌&&◌, ◌||◌, List, [], ◌∷◌, length, Some, None, Option, ◌==◌, nat_le}
 use Rattle.meaning.specs.Rooms.{Shown, Reply, No, Yes, Num, Got, List', Full}
 use Rattle.lines.specs.Fields.{Took, ◌then◌, number, number_in}
 use Rattle.lines.specs.Calls.{together, name, name_in, content, content_in, many, many_in, at_end}

@@ -1,18 +1,18 @@
 -- A hold ends at its time.
 -- Assumes nothing.
-use Rattle.std.proofs.Common.{◌≡◌, ℕ, ◌<◌, ◌≤◌, Bool, true, false, cond, not, ◌&&◌, T, eqb, ◌⊎◌, List, [], ◌∷◌, sym, refl, ◌∙◌, inl, inr, arith}
+use Rattle.std.proofs.Common.{◌≡◌, ℕ, ◌<◌, Bool, true, false, cond, not, ◌&&◌, eqb, [], ◌∷◌, sym, refl, inl, inr, arith}
 use mathlib.Core.List.{Memᴰ}
 use Rattle.std.proofs.lemmas.Bool.{eqb-true}
 use Rattle.std.proofs.lemmas.Bool.Decides.{nat_tests}
-use Rattle.meaning.specs.Lists.{Name, find}
-use Rattle.meaning.specs.Rooms.{Version, Room, State, blank, Call, Remove, Reply, No, Yes, Out}
-use Rattle.meaning.specs.Does.{no, acts, is_tick, small, does, in_room_or, removes_one, is_room, is_num, is_held, at'}
-use Rattle.meaning.specs.Laws.{Run, versions_in, keeps_of, HoldEnds}
+use Rattle.meaning.specs.Lists.{find}
+use Rattle.meaning.specs.Rooms.{Version, Room, State, Call, Remove, No, Yes, Out}
+use Rattle.meaning.specs.Does.{no, acts, is_tick, small, in_room_or, removes_one, is_room, is_num, is_held, at'}
+use Rattle.meaning.specs.Laws.{keeps_of, HoldEnds}
 use Rattle.meaning.proofs.Good.{Good}
-use Rattle.meaning.proofs.Finds.{FoundOrNone, Found, found, found_or_none}
+use Rattle.meaning.proofs.Finds.{FoundOrNone, found, found_or_none}
 use Rattle.meaning.proofs.Heaps.{Heap, one_version}
 use Rattle.meaning.proofs.Moves.{versions_found}
-use Rattle.meaning.proofs.Bounds.{heap_in, good, good_run}
+use Rattle.meaning.proofs.Bounds.{heap_in, good}
 
 -- a refusal as held isn't for want of a time or of numbers
 acted : (b c : Bool) (s : State) (o : Out) → (cond b (no 10 s) (cond c (no 8 s) o)).reply ≡ No 6 → o.reply ≡ No 6

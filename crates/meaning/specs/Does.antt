@@ -1,6 +1,6 @@
 -- What every call does: the order of the tests in each definition is the order of its refusals.
 -- Assumes nothing.
-use Rattle.std.specs.Prelude.{ℕ, zero, suc, ◌+◌, Bool, true, false, cond, not, ◌&&◌, ◌||◌, ltb, List, [], ◌∷◌, ◌++◌, map, length, ◌==◌, nat_le, nat_lt}
+use Rattle.std.specs.Prelude.{ℕ, suc, ◌+◌, Bool, true, false, cond, not, ◌&&◌, ◌||◌, ltb, List, [], ◌∷◌, ◌++◌, map, length, ◌==◌, nat_le, nat_lt}
 use Rattle.meaning.specs.Lists.{Name, some, every, keep, find, change, first_of, drop_of, none, less, same, begins}
 use Rattle.meaning.specs.Rooms.{Body, Bytes, Removed, Version, Object, Part, Upload, Rule, Room, State, Expect, Any, Absent, Is, Call, MakeRoom, DropRoom, Put, Get, Remove, Look, Versions, Begin, PutPart, Complete, Abort, Hold, SetRules, Tick, Shown, Reply, No, Yes, Num, Got, List', Full, Out}
 

@@ -1,8 +1,8 @@
 -- Worked examples: calls with their replies, each row played from a blank house.
 -- Assumes nothing.
-use Rattle.std.specs.Prelude.{ℕ, Bool, true, false, ◌&&◌, T, List, [], ◌∷◌, ◌++◌, codes, ◌==◌}
+use Rattle.std.specs.Prelude.{Bool, true, false, ◌&&◌, T, List, [], ◌∷◌, ◌++◌, codes, ◌==◌}
 use Rattle.meaning.specs.Lists.{Name, every, same}
-use Rattle.meaning.specs.Rooms.{State, blank, Expect, Any, Absent, Is, Call, MakeRoom, Put, Get, Remove, Look, Versions, Begin, PutPart, Complete, Hold, SetRules, Tick, Shown, Reply, No, Yes, Num, Got, List', Full}
+use Rattle.meaning.specs.Rooms.{State, blank, Any, Absent, Is, Call, MakeRoom, Put, Get, Remove, Look, Begin, PutPart, Complete, Hold, SetRules, Tick, Shown, Reply, No, Yes, Num, Got, List', Full}
 use Rattle.meaning.specs.Does.{does}
 
 -- a call, and what it is to be answered

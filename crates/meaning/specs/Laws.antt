@@ -3,7 +3,7 @@
 use Rattle.std.specs.Prelude.{◌≡◌, ℕ, ◌+◌, ◌<◌, ◌≤◌, Bool, true, false, not, ◌&&◌, T, ◌⊎◌, List, [], ◌∷◌, map, length, ◌≢◌}
 use mathlib.Core.List.{Memᴰ}
 use Rattle.meaning.specs.Lists.{Name, every, find, less, begins}
-use Rattle.meaning.specs.Rooms.{Body, Bytes, Removed, Version, Object, Part, Upload, Rule, Room, State, blank, Expect, Call, MakeRoom, Put, Remove, Look, Begin, PutPart, Complete, Tick, Shown, Reply, No, Num, List', Full}
+use Rattle.meaning.specs.Rooms.{Bytes, Removed, Version, Object, Part, Upload, Rule, Room, State, blank, Expect, Call, MakeRoom, Put, Remove, Look, Begin, PutPart, Complete, Tick, Shown, Reply, No, Num, List', Full}
 use Rattle.meaning.specs.Does.{does, down, is_room, is_object, is_held, at', rule_for, due, later, small, bytes, name_ok, rule_ok, with_objects, with_rooms, versions_of}
 use Rattle.meaning.specs.Weights.{weight}
 use Rattle.meaning.specs.Answers.{Answers, Refuses}

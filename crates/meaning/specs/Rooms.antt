@@ -1,6 +1,6 @@
 -- What there is: rooms, objects, versions, uploads, rules; the calls and the replies.
 -- Assumes nothing.
-use Rattle.std.specs.Prelude.{ℕ, Bool, List, [], ◌∷◌}
+use Rattle.std.specs.Prelude.{ℕ, Bool, List, []}
 use Rattle.meaning.specs.Lists.{Name}
 
 pub data Body : Type 0 where

@@ -1,6 +1,6 @@
 -- What there is weighs: the sum by which a house is full.
 -- Assumes nothing.
-use Rattle.std.specs.Prelude.{ℕ, zero, suc, ◌+◌, ◌*◌, Bool, cond, not, ◌&&◌, List, [], ◌∷◌, length, ◌==◌}
+use Rattle.std.specs.Prelude.{ℕ, zero, suc, ◌+◌, ◌*◌, cond, not, ◌&&◌, List, [], ◌∷◌, length, ◌==◌}
 use Rattle.meaning.specs.Rooms.{Version, Object, Part, Upload, Room, State}
 use Rattle.meaning.specs.Does.{bytes_of}
 

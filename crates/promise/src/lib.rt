@@ -1,3 +1,2 @@
 // The promise of the whole is in specs/Promise.antt.
 #![tactic(auto)]
-

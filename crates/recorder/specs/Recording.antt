@@ -1,6 +1,6 @@
 -- The root record in code: what its steps do, and the machine that they are, with the calls of a register.
 -- Assumes nothing.
-use Rattle.std.specs.Prelude.{◌≡◌, ℕ, ◌-◌, ◌≤◌, Bool, true, false, cond, List, [], ◌∷◌, map, set, replicate, ◌==◌, slice_index_or, slice_set}
+use Rattle.std.specs.Prelude.{◌≡◌, ℕ, ◌-◌, ◌≤◌, Bool, true, false, cond, List, [], ◌∷◌, map, replicate, ◌==◌, slice_index_or, slice_set}
 use Rattle.drives.specs.Machines.{Machine, Keeps, Within}
 use Rattle.drives.specs.Layers.{gives, asks, Layer, over}
 use Rattle.register.specs.declared.Payload.{Payload}

@@ -15,7 +15,6 @@ use Rattle.register.specs.declared.Reply.TheVariants as reply
 use Rattle.register.specs.declared.Call.TheVariants.{Set, Get}
 use Rattle.root.specs.Root as root
 use Rattle.root.specs.Root.{settle, lowest, or_else, opening, does}
-use Rattle.root.specs.Labels.{encode}
 use Rattle.labels.specs.declared.Label.{Label}
 use Rattle.labels.specs.declared.Record.{Record}
 use Rattle.labels.specs.declared.Record.TheVariants.{Empty, Committed}

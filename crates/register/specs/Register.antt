@@ -1,6 +1,6 @@
 -- A register: one payload, which is kept whatever happens. It is the judge between the root record and what is built on it.
 -- Assumes nothing.
-use Rattle.std.specs.Prelude.{◌≡◌, ℕ, ◌%◌}
+use Rattle.std.specs.Prelude.{ℕ, ◌%◌}
 use Rattle.drives.specs.Machines.{Judge, atomic}
 use Rattle.register.specs.declared.Payload.{Payload}
 use Rattle.register.specs.declared.Call.{Call}

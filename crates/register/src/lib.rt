@@ -1,7 +1,6 @@
 // One payload that is kept whatever happens: its calls and replies. What they come to is in specs/Register.antt.
 #![tactic(auto)]
 
-
 // What a root record carries.
 #[derive(Clone, Copy, PartialEq, Eq)]
 pub struct Payload {

@@ -4,7 +4,7 @@ use mathlib.Core.Path.{◌≡◌, ◌∙◌, ap}
 use Prim.Native.Nat.{ℕ}
 use native.Mathlib.Omega.{arith}
 use Rattle.crash.proofs.Updates.{put_at_lem, put_off}
-use Rattle.rows.specs.Rows.{Cell, unknown, fresh, kept, State, Call, ReadRow, WriteRow, SetRoot, Reply, RowIs, Done, kept_cell, fallen_cell, Reads, Answers, CutIn, fallen}
+use Rattle.rows.specs.Rows.{Cell, unknown, fresh, kept, State, Call, ReadRow, WriteRow, SetRoot, Reply, RowIs, Done, kept_cell, fallen_cell, Reads, Answers, CutIn}
 use Rattle.rows.specs.Laws.{Spares, Calm, Run, Kinds, RowsStay}
 
 -- a row that is kept reads as what it has

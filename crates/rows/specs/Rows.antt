@@ -1,6 +1,6 @@
 -- Rows and one payload, as a layer above them sees them: no drives, no shards, no mending.
 -- Assumes nothing.
-use Rattle.std.specs.Prelude.{◌≡◌, cond, ℕ, ◌-◌, ◌/◌, ◌<◌, ◌≤◌, eqb}
+use Rattle.std.specs.Prelude.{◌≡◌, ℕ, ◌-◌, ◌/◌, ◌<◌, ◌≤◌}
 use Rattle.drives.specs.Drives.{put}
 use Rattle.drives.specs.Machines.{Judge}
 

@@ -1,6 +1,6 @@
 -- Decimal numbers of a script.
 -- Assumes nothing.
-use Rattle.std.specs.Prelude.{ℕ, Bool, cond, ◌||◌, List, length, drop, Some, None, Option, ◌==◌, nat_lt}
+use Rattle.std.specs.Prelude.{ℕ, cond, ◌||◌, List, length, drop, Some, None, Option, ◌==◌, nat_lt}
 use Rattle.console.specs.Hex.{all_pass, is_decimal, read_from}
 use Rattle.console.specs.Commands.{begins_with}
 

@@ -1,6 +1,6 @@
 -- The commands of a script that only a rehearsal has.
 -- Assumes nothing.
-use Rattle.std.specs.Prelude.{ℕ, suc, ◌+◌, Bool, cond, List, [], ◌∷◌, length, take, drop, Some, None, codes, Option, ◌==◌, nat_lt}
+use Rattle.std.specs.Prelude.{ℕ, suc, ◌+◌, cond, List, [], ◌∷◌, length, take, drop, Some, None, codes, Option, ◌==◌, nat_lt}
 use Rattle.console.specs.Commands.{begins_with, is_word}
 use Rattle.script.specs.Numbers.{number_of, number_after}
 use Rattle.script.specs.declared.Chosen.{Chosen}

@@ -1,6 +1,6 @@
 -- The weak drives, as a list of which are.
 -- Assumes nothing.
-use Rattle.std.specs.Prelude.{ℕ, ◌+◌, Bool, true, false, cond, not, ◌&&◌, List, [], ◌∷◌, length, nat_lt, slice_set}
+use Rattle.std.specs.Prelude.{ℕ, ◌+◌, Bool, true, cond, ◌&&◌, List, [], ◌∷◌, length, nat_lt, slice_set}
 use Rattle.drives.specs.Machines.{without}
 
 -- the numbers of those that are weak, where the first of the list has the number i

@@ -1,10 +1,10 @@
 -- The drives that a list of them stands for.
 -- Assumes nothing.
-use Rattle.std.proofs.Common.{◌≡◌, ℕ, ◌<◌, ◌≤◌, Bool, true, false, cond, not, eqb, ◌≢◌, List, [], length, get_or, set, is_some, Some, None, Option, sym, refl, ap, ◌∙◌, subst, arith, length-set, get_or-set_other, get_or-set_same, eqb-true}
+use Rattle.std.proofs.Common.{◌≡◌, ℕ, ◌<◌, ◌≤◌, Bool, true, false, cond, not, eqb, List, [], length, get_or, set, is_some, Some, None, Option, sym, refl, ap, ◌∙◌, subst, arith, length-set, get_or-set_other, get_or-set_same, eqb-true}
 use mathlib.Core.Path.{fun_ext}
 use borrow.Author.Tests.{eqb-false}
 use Rattle.std.proofs.lemmas.List.{get_or_default, get_or_past}
-use Rattle.drives.specs.Drives.{Slot, gone, there, Drives, put, CutSlot, nothing, shown, written_to, synced_one}
+use Rattle.drives.specs.Drives.{Slot, gone, Drives, put, CutSlot, nothing, shown, written_to, synced_one}
 use Rattle.drives.specs.Machines.{is_gone}
 use Rattle.simdrives.specs.Sims.{slot_of, slots}
 use Rattle.simdrives.specs.declared.sectors.Sectors.{Sectors}

@@ -1,6 +1,6 @@
 -- Whether what is asked is carried out.
 -- Assumes nothing.
-use Rattle.std.specs.Prelude.{ℕ, ◌-◌, Bool, true, false, cond, ◌==◌}
+use Rattle.std.specs.Prelude.{◌-◌, Bool, true, false, cond, ◌==◌}
 use Rattle.simdrives.specs.declared.Power.{Power}
 use Rattle.simdrives.specs.declared.Power.TheVariants.{On, Fails, Off, NoMemory}
 

@@ -1,6 +1,6 @@
 -- Drives in memory, and the drives that they stand for.
 -- Assumes nothing.
-use Rattle.std.specs.Prelude.{◌≡◌, ℕ, Bool, true, false, cond, List, [], ◌∷◌, reverse, Some, None, vec_items, box_value, Option, ◌==◌, slice_index_or}
+use Rattle.std.specs.Prelude.{ℕ, cond, List, [], ◌∷◌, reverse, Some, None, vec_items, box_value, Option, ◌==◌, slice_index_or}
 use Rattle.std.specs.BTreeMap as tree
 use Rattle.drives.specs.Drives.{Drive, Slot, gone, there, zeros}
 use Rattle.simdrives.specs.declared.sectors.Before.{Before}

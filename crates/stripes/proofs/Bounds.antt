@@ -1,27 +1,26 @@
 -- All that is asked is fair, a stretch is short, and little is asked for.
 -- Assumes nothing.
 use mathlib.Core.Path.{◌≡◌, refl, sym, ◌∙◌, ap, subst}
-use mathlib.Core.Logic.{◌⊎◌, inl, inr, ⊎_elim}
-use mathlib.Core.Bool.{Bool, true, false, cond, not, ◌&&◌, true≢false}
+use mathlib.Core.Logic.{⊎_elim}
+use mathlib.Core.Bool.{Bool, true, false, cond}
 use mathlib.Core.Option.{Option, none, some}
 use mathlib.Core.List.{List, []}
-use Prim.Native.Nat.{ℕ, zero, suc, ◌+◌, ◌-◌, ◌*◌, ◌/◌, ◌<◌, ◌≤◌, min}
+use Prim.Native.Nat.{ℕ, zero, suc, ◌+◌, ◌-◌, ◌*◌, ◌<◌, ◌≤◌}
 use native.Mathlib.Omega.{arith}
 use lib.Dec.{T, ltb, ltb→lt}
-use Rattle.drives.specs.Drives.{smallest, Drives, shown, put, Io, answer, ops_of, Fair}
-use Rattle.drives.specs.Machines.{longest, is_gone}
-use Rattle.crash.specs.Loops.{on_each, write_if, syncs, sync_all, read_all, read_if, count, any}
+use Rattle.drives.specs.Drives.{smallest, Drives, shown, put, Io, ops_of, Fair}
+use Rattle.drives.specs.Machines.{longest}
+use Rattle.crash.specs.Loops.{count}
 use Rattle.crash.specs.Refinement.{Few}
 use Rattle.crash.specs.RefinementBy.{Whole, IsSector, BoundedBy}
-use Rattle.crash.proofs.Weak.{Weak}
 use Rattle.crash.proofs.Wholes.{shown_whole}
 use Rattle.crash.proofs.Counts.{count_same, count_first, few_pass, four_first}
 use Rattle.crash.proofs.Does.{Each, Read}
-use Rattle.crash.proofs.Fairness.{FairAnywhere, AtMost, fair_each, fair_write, fair_sync, fair_read_all, ops_answer, ops_each, ops_write, ops_sync, ops_read_all, ops_more, ops_writes, ops_reads, ops_read_at, fair_read_at, fair_read_if, Sound, FairSound, sound_writes, sound_syncs}
+use Rattle.crash.proofs.Fairness.{FairAnywhere, AtMost, fair_each, fair_write, fair_sync, fair_read_all, ops_answer, ops_each, ops_write, ops_sync, ops_read_all, ops_more, ops_writes, ops_reads, ops_read_at, fair_read_at, fair_read_if, FairSound, sound_writes}
 use Rattle.root.specs.Root.{Label, missing, rebuilding, has, Record, Codec, Lawful, is_there, trusted, lowest}
-use Rattle.rows.specs.Rows.{Call, ReadRow, WriteRow, SetRoot, GetRoot, RowIs, Done, NoRow, rows_in}
+use Rattle.rows.specs.Rows.{Call, ReadRow, WriteRow, SetRoot, GetRoot, rows_in}
 use Rattle.stripes.specs.Coding.{Coding, LawfulCoding, OfFour}
-use Rattle.stripes.specs.Stripes.{read_row, write_row, no_row, says, rejoin, mark_all, is_any_new, is_any_bare, sector_at, place_of, places, is_bare, is_new, taken, picked, Mem, Answered, Mended, placed, settle, opening, gather_row, does, stride, rebuild_one, rebuild_from, finish, ahead, stretch, mending, stripes, judge, AsksLittle}
+use Rattle.stripes.specs.Stripes.{read_row, write_row, no_row, says, rejoin, mark_all, is_any_new, is_any_bare, sector_at, place_of, places, is_bare, taken, picked, Mem, Answered, Mended, placed, settle, opening, gather_row, does, rebuild_one, rebuild_from, finish, ahead, stretch, mending, stripes, judge, AsksLittle}
 use Rattle.stripes.proofs.Standing.{sec}
 use Rattle.stripes.proofs.Invariant.{St, Off, On}
 use Rattle.stripes.proofs.Reading.{Source, stand_source}

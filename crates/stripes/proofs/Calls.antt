@@ -3,30 +3,29 @@
 use mathlib.Core.Path.{◌≡◌, refl, sym, ◌∙◌, ap, subst, subst⁻¹}
 use mathlib.Core.Logic.{◌⊎◌, inl, inr, ⊎_elim}
 use mathlib.Core.Bool.{Bool, true, false, cond, not, true≢false}
-use mathlib.Core.Option.{Option, none, some}
-use mathlib.Core.List.{List, []}
+use mathlib.Core.Option.{none}
+use mathlib.Core.List.{List}
 use Prim.Native.Nat.{ℕ, ◌+◌, ◌<◌, ◌≤◌}
 use native.Mathlib.Omega.{arith}
 use lib.Dec.{T, ltb, ltb→lt, nltb→le}
-use Rattle.drives.specs.Drives.{Slot, gone, there, Drives, shown, written_to, synced_one, put, Io, answer}
-use Rattle.drives.specs.Machines.{Judge, is_gone}
-use Rattle.crash.specs.Loops.{on_each, write_if, sync_all, read_all}
+use Rattle.drives.specs.Drives.{Slot, gone, there, Drives, shown, written_to, synced_one, put}
+use Rattle.drives.specs.Machines.{is_gone}
 use Rattle.crash.specs.Refinement.{Does, Cuts, Few}
 use Rattle.crash.proofs.Updates.{same?, put_at_lem, put_off}
-use Rattle.crash.proofs.Sectors.{Sight, sees, sight, shown_sight, Holds, holds_sight, holds_sync, holds_synced, sight_write, sight_sync, shown_sync}
+use Rattle.crash.proofs.Sectors.{sees, sight, shown_sight, holds_sight, holds_sync, holds_synced, sight_write, sight_sync, shown_sync}
 use Rattle.crash.proofs.Weak.{Weak}
 use Rattle.crash.proofs.Does.{does_answer, Each, does_each, acts_sync, Read, does_read_all}
-use Rattle.root.specs.Root.{Record, empty, committed, has, Codec, Lawful, record_in, is_there, trusted, payload}
-use Rattle.root.proofs.Root.{May, lacks, shows, bare, may_more, never, written}
+use Rattle.root.specs.Root.{Record, empty, committed, has, Codec, Lawful, record_in, trusted, payload}
+use Rattle.root.proofs.Root.{never, written}
 use Rattle.rows.specs.Rows.{Cell, unknown, fresh, kept, State, Call, ReadRow, WriteRow, SetRoot, GetRoot, Reply, RowIs, Done, NoRow, PayloadIs, kept_cell, fallen_cell, with_cell, commit, fallen, Answers, CutIn, rows_in}
 use Rattle.rows.specs.Rows as rows
 use Rattle.stripes.specs.Coding.{Coding, LawfulCoding}
-use Rattle.stripes.specs.Stripes.{read_row, write_row, commit_root, no_row, sector_at, place_of, is_mark, taken, picked, Mem, Answered, gather_row, settle, does, judge}
-use Rattle.stripes.proofs.Standing.{sec, shown_is, sync_moves, sync_looks, Cells, Has, Shows, Zeros, Stored, as_fresh, as_kept, Caught, Under, NoneKept, Fit, Stand, no_drive, trusts, lacks_it, has_moves, zeros_moves, shows_looks, caught_looks, fit_more, stand_fit, has_under, zeros_under}
+use Rattle.stripes.specs.Stripes.{read_row, write_row, commit_root, no_row, sector_at, place_of, is_mark, taken, picked, Mem, Answered, settle, does, judge}
+use Rattle.stripes.proofs.Standing.{sec, shown_is, sync_moves, sync_looks, Zeros, Stored, as_fresh, as_kept, Caught, Fit, Stand, no_drive, trusts, lacks_it, zeros_moves, caught_looks, fit_more, stand_fit}
 use Rattle.stripes.proofs.Settling.{Settles, Before, After, does_settle}
-use Rattle.stripes.proofs.Invariant.{may_by, untrusted_bare, trusted_has, St, R, Rows, Possible, Off, On, Stands, under_fallen, under_commit, cuts_settled, undone, stands_fit, stands_cuts, stand_final}
-use Rattle.stripes.proofs.Reading.{does_read_row, reads_content, Source, stand_source, row_shards, record_shown, record_there, bare_shown, bare_there, gone_shown}
-use Rattle.stripes.proofs.Writing.{Less, stand_less, zeros_less, without, spared, without_less, Wrote, does_write_row}
+use Rattle.stripes.proofs.Invariant.{may_by, untrusted_bare, St, R, Rows, Possible, Off, On, Stands, under_fallen, under_commit, cuts_settled, undone, stands_cuts, stand_final}
+use Rattle.stripes.proofs.Reading.{does_read_row, reads_content, Source, stand_source, row_shards, record_shown, record_there, bare_there}
+use Rattle.stripes.proofs.Writing.{stand_less, zeros_less, without, without_less, Wrote, does_write_row}
 
 kept_never : {B : Type 0} (c : Cell B) → kept_cell c ≡ rows.never → c ≡ rows.never
 kept_never rows.never e = e

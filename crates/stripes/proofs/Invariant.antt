@@ -1,20 +1,19 @@
 -- The invariant of stripes, while the power is off and while it is on, and what a cut leaves of it.
 -- Assumes nothing.
 use mathlib.Core.Path.{◌≡◌, refl, sym, ◌∙◌, ap, subst, fun_ext}
-use mathlib.Core.Logic.{◌⊎◌, inl, inr, ⊎_elim}
-use mathlib.Core.Bool.{Bool, true, false, cond, true≢false}
+use mathlib.Core.Bool.{true, false, true≢false}
 use mathlib.Core.Option.{Option, none, some}
-use mathlib.Core.List.{List, []}
-use Prim.Native.Nat.{ℕ, ◌*◌, ◌<◌, ◌≤◌}
+use mathlib.Core.List.{List}
+use Prim.Native.Nat.{ℕ, ◌*◌, ◌≤◌}
 use native.Mathlib.Omega.{arith}
-use Rattle.drives.specs.Drives.{Slot, gone, there, Drives, shown, latest, AfterCut}
+use Rattle.drives.specs.Drives.{Slot, gone, there, Drives, shown, latest}
 use Rattle.drives.specs.Machines.{is_gone}
 use Rattle.crash.specs.Refinement.{Cuts}
-use Rattle.crash.proofs.Sectors.{Sight, nowhere, sees, sight, text, shown_sight, Calm, calm_holds}
+use Rattle.crash.proofs.Sectors.{Sight, sees, sight, text, shown_sight, Calm, calm_holds}
 use Rattle.crash.proofs.Weak.{Weak}
 use Rattle.crash.proofs.Does.{Each}
-use Rattle.root.specs.Root.{Record, empty, Codec, Lawful, record_in, is_there, trusted, payload}
-use Rattle.root.proofs.Root.{May, lacks, shows, bare, may_record, never}
+use Rattle.root.specs.Root.{Record, empty, Codec, record_in, is_there, payload}
+use Rattle.root.proofs.Root.{May, lacks, shows, bare}
 use Rattle.rows.specs.Rows.{Cell, fresh, kept, State, kept_cell, fallen_cell, fallen, rows_in}
 use Rattle.rows.specs.Rows as rows
 use Rattle.stripes.specs.Coding.{Coding}

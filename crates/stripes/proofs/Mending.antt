@@ -3,36 +3,33 @@
 use mathlib.Core.Path.{◌≡◌, refl, sym, ◌∙◌, ap, subst, subst⁻¹}
 use mathlib.Core.Logic.{◌⊎◌, inl, inr, ⊎_elim}
 use mathlib.Core.Bool.{Bool, true, false, cond, not, ◌&&◌, true≢false}
-use mathlib.Core.Option.{Option, none, some}
-use mathlib.Core.List.{List, []}
-use Prim.Native.Nat.{ℕ, zero, suc, ◌+◌, ◌-◌, ◌*◌, ◌/◌, ◌%◌, ◌<◌, ◌≤◌, min}
-use native.Mathlib.Nat.{mod-lt}
+use mathlib.Core.Option.{none, some}
+use mathlib.Core.List.{List}
+use Prim.Native.Nat.{ℕ, zero, suc, ◌+◌, ◌-◌, ◌*◌, ◌/◌, ◌%◌, ◌<◌, ◌≤◌}
 use native.Mathlib.Omega.{arith}
-use lib.Dec.{T, eqb, ltb, ltb→lt, nltb→le, lit<}
+use lib.Dec.{T, eqb, ltb, ltb→lt, nltb→le}
 use lib.ListN.{length}
-use Rattle.drives.specs.Drives.{zeros, Slot, gone, there, Drives, shown, written_to, synced_one, put, Io, answer}
+use Rattle.drives.specs.Drives.{zeros, Slot, gone, there, Drives, shown, written_to, synced_one, Io}
 use Rattle.drives.specs.Machines.{is_gone, still_gone, weak_after}
-use Rattle.crash.specs.Loops.{on_each, write_if, sync_all, read_all, read_if, any}
 use Rattle.crash.specs.Refinement.{Does, Cuts, Few, counted}
 use Rattle.crash.specs.RefinementBy.{Whole}
 use Rattle.crash.proofs.Updates.{same?}
-use Rattle.crash.proofs.Sectors.{Sight, nowhere, sees, sight, shown_sight, Holds, away, held, holds_sight, holds_more, holds_write, holds_write_off, holds_sync, holds_synced, sight_write, sight_write_off, sight_sync, shown_sync, shown_write_off, Calm}
+use Rattle.crash.proofs.Sectors.{Sight, sees, sight, Holds, holds_sight, holds_write, holds_write_off, holds_sync, holds_synced, sight_write, sight_write_off, sight_sync, shown_sync, shown_write_off}
 use Rattle.crash.proofs.Weak.{Weak, weak_gone}
 use Rattle.crash.proofs.Wholes.{shown_whole}
 use Rattle.crash.proofs.Counts.{any_true, any_false}
 use Rattle.crash.proofs.Does.{does_answer, Each, does_each, acts_sync, acts_write, written_if, Read, does_read_all, does_read_if}
 use Rattle.root.specs.Root.{Record, has, rebuilding, Codec, Lawful, record_in, record_of, is_there, trusted}
-use Rattle.root.proofs.Root.{May, lacks, shows, bare, never, missing_bare}
-use Rattle.rows.specs.Rows.{Cell, fresh, kept, fallen, rows_in}
-use Rattle.rows.specs.Rows as rows
+use Rattle.root.proofs.Root.{May, lacks, shows, bare, missing_bare}
+use Rattle.rows.specs.Rows.{Cell}
 use Rattle.stripes.specs.Coding.{Coding, LawfulCoding}
-use Rattle.stripes.specs.Stripes.{says, rejoin, mark_all, is_any_new, is_any_bare, sector_at, place_of, places, is_mark, is_bare, is_new, taken, picked, Mem, Mended, placed, settle, stride, rebuild_one, rebuild_from, finish, ahead, stretch, mending, soon, stripes, judge}
+use Rattle.stripes.specs.Stripes.{says, rejoin, mark_all, is_any_new, is_any_bare, sector_at, place_of, places, is_mark, is_bare, is_new, taken, picked, Mem, Mended, placed, stride, rebuild_one, rebuild_from, finish, ahead, stretch, mending, soon, stripes, judge}
 use Rattle.stripes.proofs.Standing.{sec, shown_is, label_moves, label_looks, sync_moves, sync_looks, zeros_moves, shows_looks, Has, Shows, Zeros, Zero, is_zero, Stored, as_fresh, as_kept, Caught, IsRecord, is_record, NoRecord, no_record, Fit, Stand, no_drive, trusts, lacks_it, stand_fit, has_moves}
 use Rattle.stripes.proofs.Settling.{Settles, Before, After, does_settle}
 use Rattle.stripes.proofs.Invariant.{St, R, Rows, Off, On, Stands, under_fallen, cuts_settled, undone, stand_final}
 use Rattle.stripes.proofs.Writing.{gone_same, written_there}
 use Rattle.stripes.proofs.Calls.{gone_sync, gone_there}
-use Rattle.stripes.proofs.Reading.{Content, of_never, of_fresh, of_kept, Source, stand_source, row_shards, record_shown, record_there, bare_shown, bare_there, gone_shown}
+use Rattle.stripes.proofs.Reading.{Content, of_never, of_fresh, of_kept, Source, row_shards, record_shown, record_there, bare_shown, bare_there, gone_shown}
 
 -- TESTS
 

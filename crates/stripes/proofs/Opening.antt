@@ -1,24 +1,21 @@
 -- Opening: what is found is settled on all trusted drives, before anything is answered.
 -- Assumes nothing.
 use mathlib.Core.Path.{◌≡◌, refl, sym, ◌∙◌, ap, subst}
-use mathlib.Core.Logic.{◌⊎◌, inl, inr, ⊎_elim}
-use mathlib.Core.Bool.{Bool, true, false, cond, true≢false}
+use mathlib.Core.Bool.{true, false, true≢false}
 use mathlib.Core.Option.{Option, none, some}
-use mathlib.Core.List.{List, []}
-use Prim.Native.Nat.{ℕ, ◌<◌, ◌≤◌}
+use mathlib.Core.List.{List}
+use Prim.Native.Nat.{ℕ, ◌<◌}
 use native.Mathlib.Omega.{arith}
 use Rattle.drives.specs.Drives.{Slot, Drives, shown}
-use Rattle.drives.specs.Machines.{is_gone}
 use Rattle.crash.specs.Refinement.{Does, Cuts, Few, Fallen}
-use Rattle.crash.proofs.Sectors.{Sight, sight, text, shown_sight, holds_more}
+use Rattle.crash.proofs.Sectors.{sight, shown_sight, holds_more}
 use Rattle.crash.proofs.Weak.{Weak}
 use Rattle.crash.proofs.Does.{Each, Read, does_read_all}
-use Rattle.root.specs.Root.{Record, empty, committed, Codec, Lawful, record_in, committed_in, committed_of, is_there, trusted, payload, lowest}
-use Rattle.root.proofs.Root.{May, lacks, shows, bare, may_more, may_record, Labelled, Shown, some_record, Found, found, never, empty_is, committed_is}
-use Rattle.rows.specs.Rows.{State, fallen}
+use Rattle.root.specs.Root.{Record, empty, committed, Codec, Lawful, record_in, committed_in, committed_of, trusted, payload, lowest}
+use Rattle.root.proofs.Root.{May, may_more, may_record, Labelled, some_record, Found, found, never, empty_is, committed_is}
 use Rattle.stripes.specs.Coding.{Coding}
 use Rattle.stripes.specs.Stripes.{Mem, judge, opening, stripes}
-use Rattle.stripes.proofs.Standing.{Has, Zeros, Under, NoneKept, Sit, sit_fit, has_under, zeros_under, fit_cut}
+use Rattle.stripes.proofs.Standing.{Has, Under, NoneKept, Sit, sit_fit, has_under, zeros_under, fit_cut}
 use Rattle.stripes.proofs.Settling.{Settles, After, does_settle}
 use Rattle.stripes.proofs.Invariant.{may_by, untrusted_bare, trusted_has, St, R, Rows, Possible, Off, settled, unset, On, fallen_is, cuts_settled, stand_final}
 

@@ -1,19 +1,17 @@
 -- What is read of four trusted drives is the row.
 -- Assumes nothing.
-use mathlib.Core.Path.{◌≡◌, refl, sym, ◌∙◌, ap, subst, subst⁻¹}
-use mathlib.Core.Logic.{◌⊎◌, inl, inr, ⊎_elim}
+use mathlib.Core.Path.{◌≡◌, refl, sym, ◌∙◌, ap, subst⁻¹}
+use mathlib.Core.Logic.{◌⊎◌, inl, inr}
 use mathlib.Core.Bool.{Bool, true, false, cond, ◌&&◌, true≢false}
-use mathlib.Core.Option.{Option, none, some}
+use mathlib.Core.Option.{none, some}
 use mathlib.Core.List.{List, []}
 use Prim.Native.Nat.{ℕ, zero, suc, ◌+◌, ◌<◌, ◌≤◌}
 use native.Mathlib.Omega.{arith}
-use lib.Dec.{ltb}
 use Rattle.drives.specs.Drives.{Slot, gone, there, Drives, shown, put, Io}
 use Rattle.drives.specs.Machines.{is_gone}
-use Rattle.crash.specs.Loops.{count}
 use Rattle.crash.specs.Refinement.{Does, Few}
 use Rattle.crash.proofs.Updates.{put_elim}
-use Rattle.crash.proofs.Sectors.{Sight, nowhere, sees, sight, text, shown_sight, holds_sight}
+use Rattle.crash.proofs.Sectors.{Sight, sees, sight, text, shown_sight, holds_sight}
 use Rattle.crash.proofs.Weak.{Weak}
 use Rattle.crash.proofs.Counts.{count_same, four_first}
 use Rattle.crash.proofs.Does.{Each, does_read_if}
@@ -23,7 +21,7 @@ use Rattle.rows.specs.Rows.{Cell, fresh, kept, Reads}
 use Rattle.rows.specs.Rows as rows
 use Rattle.stripes.specs.Coding.{Coding, LawfulCoding, Shards}
 use Rattle.stripes.specs.Stripes.{taken, picked, gather_row}
-use Rattle.stripes.proofs.Standing.{sec, holds_is, shown_is, there_is, zero_is, Has, Shows, Zeros, IsRecord, is_record, NoRecord, no_record, Stand, no_drive, trusts, lacks_it}
+use Rattle.stripes.proofs.Standing.{sec, holds_is, shown_is, zero_is, Has, Shows, Zeros, IsRecord, is_record, NoRecord, no_record, Stand, no_drive, trusts, lacks_it}
 use Rattle.stripes.proofs.Invariant.{R, Rows}
 
 -- the sectors of a row, of drives that pass a test

@@ -1,7 +1,7 @@
 -- A lawful coding is lawful still where only whole sectors are taken as they are.
 -- Assumes nothing.
 use mathlib.Core.Path.{◌≡◌, refl, sym, ◌∙◌, ap, subst, subst⁻¹}
-use mathlib.Core.Logic.{◌⊎◌, inl, inr, ⊎_elim}
+use mathlib.Core.Logic.{inl, inr, ⊎_elim}
 use mathlib.Core.Bool.{cond}
 use mathlib.Core.Option.{Option, none, some, map}
 use mathlib.Core.List.{List}

@@ -1,19 +1,18 @@
 -- Settling a record: its label goes to some drives, and all are synced.
 -- Assumes nothing.
-use mathlib.Core.Path.{◌≡◌, refl, sym, ◌∙◌, ap, subst, subst⁻¹}
-use mathlib.Core.Bool.{Bool, true, false, cond, true≢false}
-use mathlib.Core.List.{List}
+use mathlib.Core.Path.{◌≡◌, refl, subst⁻¹}
+use mathlib.Core.Bool.{Bool, true, false, cond}
 use Prim.Native.Nat.{ℕ, ◌<◌}
-use Rattle.drives.specs.Drives.{Slot, gone, there, Drives, written_to, synced_one, Io, answer}
+use Rattle.drives.specs.Drives.{Slot, gone, there, Drives, written_to, synced_one}
 use Rattle.drives.specs.Machines.{is_gone}
 use Rattle.crash.specs.Refinement.{Does}
-use Rattle.crash.proofs.Sectors.{Sight, sight, Holds, away, held, holds_sight, holds_more, holds_write, sight_write, sight_sync, Calm, calm_holds, calm_sync}
+use Rattle.crash.proofs.Sectors.{sight, away, holds_more, holds_write, sight_write, sight_sync, Calm, calm_holds, calm_sync}
 use Rattle.crash.proofs.Does.{does_answer, Each, written_if, does_each, acts_write, acts_sync}
 use Rattle.root.specs.Root.{Record, has, Codec, Lawful}
-use Rattle.root.proofs.Root.{May, lacks, shows, bare, may_more, written}
+use Rattle.root.proofs.Root.{May, lacks, shows, may_more, written}
 use Rattle.stripes.specs.Coding.{Coding}
 use Rattle.stripes.specs.Stripes.{settle}
-use Rattle.stripes.proofs.Standing.{Moves, label_moves, sync_moves, Cells, Has, Zeros, Fit, has_moves, zeros_moves}
+use Rattle.stripes.proofs.Standing.{label_moves, sync_moves, Cells, Has, Zeros, Fit, has_moves, zeros_moves}
 
 module _ (K : Codec) (law : Lawful K) (Z : Coding) (R : ℕ) where
   -- The record q is settled on the drives that pass the test t. All along, labels may be as C says, and fit the rows c. B, B': drives may be without a record all along, and at the end.

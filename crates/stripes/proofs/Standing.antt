@@ -1,18 +1,16 @@
 -- What is said of a drive: its label, and the rows that it has.
 -- Assumes nothing.
-use mathlib.Core.Path.{◌≡◌, refl, sym, ◌∙◌, ap, subst, subst⁻¹}
-use mathlib.Core.Logic.{◌⊎◌, inl, inr, ⊎_elim}
-use mathlib.Core.Bool.{Bool, true, false, cond, not, ◌&&◌, true≢false}
-use mathlib.Core.Option.{Option, none, some}
-use mathlib.Core.List.{List, [], ◌∷◌}
-use Prim.Native.Nat.{ℕ, zero, suc, ◌+◌, ◌*◌, ◌<◌, ◌≤◌}
+use mathlib.Core.Path.{◌≡◌, refl, ◌∙◌, ap}
+use mathlib.Core.Bool.{true, false, true≢false}
+use mathlib.Core.Option.{none, some}
+use mathlib.Core.List.{List}
+use Prim.Native.Nat.{ℕ, ◌<◌}
 use native.Mathlib.Omega.{arith}
-use Rattle.drives.specs.Drives.{zeros, blank_drive, Slot, gone, there, Drives, shown, written_to, synced_one, put, CutSlot}
+use Rattle.drives.specs.Drives.{zeros, blank_drive, Slot, gone, there, shown, written_to, synced_one, CutSlot}
 use Rattle.drives.specs.Machines.{is_gone}
-use Rattle.crash.proofs.Updates.{same?, put_elim, put_at_lem, put_off}
-use Rattle.crash.proofs.Sectors.{Sight, nowhere, sees, sight, text, shown_sight, Holds, away, held, holds_sight, holds_more, holds_write, holds_write_off, sight_write, sight_write_off, sight_sync, holds_synced, holds_sync, holds_cut, holds_blank, Calm, calm_holds, calm_cut}
-use Rattle.root.specs.Root.{Record, Codec, Lawful, record_in}
-use Rattle.root.proofs.Root.{May, lacks, shows, bare, may_more, never}
+use Rattle.crash.proofs.Sectors.{Sight, nowhere, sees, sight, text, shown_sight, Holds, away, holds_sight, holds_more, holds_write_off, sight_write_off, sight_sync, holds_sync, holds_cut, holds_blank, Calm, calm_holds, calm_cut}
+use Rattle.root.specs.Root.{Record, Codec, record_in}
+use Rattle.root.proofs.Root.{May, lacks, shows, bare, may_more}
 use Rattle.rows.specs.Rows.{Cell, unknown, fresh, kept, kept_cell, fallen_cell}
 use Rattle.rows.specs.Rows as rows
 use Rattle.stripes.specs.Coding.{Coding}

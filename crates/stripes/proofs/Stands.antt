@@ -1,26 +1,26 @@
 -- Stripes stand.
 -- Assumes nothing.
 use mathlib.Core.Path.{◌≡◌, refl, sym, ◌∙◌, ap, subst, subst⁻¹}
-use mathlib.Core.Bool.{Bool, true, false, true≢false}
-use mathlib.Core.Option.{Option, some}
-use mathlib.Core.List.{List, [], ◌∷◌}
-use Prim.Native.Nat.{ℕ, ◌<◌, ◌≤◌}
+use mathlib.Core.Bool.{false, true≢false}
+use mathlib.Core.Option.{some}
+use mathlib.Core.List.{List, ◌∷◌}
+use Prim.Native.Nat.{ℕ}
 use native.Mathlib.Omega.{arith}
-use Rattle.drives.specs.Drives.{smallest, largest, zeros, blank_drive, Slot, gone, there, Drives, latest, shown, put}
+use Rattle.drives.specs.Drives.{zeros, blank_drive, Slot, gone, there, Drives, latest, shown, put}
 use Rattle.drives.specs.Machines.{without}
-use Rattle.crash.specs.Refinement.{Cuts, Few}
+use Rattle.crash.specs.Refinement.{Few}
 use Rattle.crash.specs.RefinementBy.{RefinesBy, RefinementBy}
 use Rattle.crash.proofs.Updates.{put_elim}
-use Rattle.crash.proofs.Sectors.{Sight, nowhere, sees, sight, shown_sight, Holds, away, held, holds_blank, holds_more, Calm, calm_blank}
+use Rattle.crash.proofs.Sectors.{away, holds_blank, holds_more, calm_blank}
 use Rattle.crash.proofs.Weak.{Weak, weak_lost, weak_still}
 use Rattle.crash.proofs.Does.{Each}
 use Rattle.crash.proofs.RefinementBy.{refined_keeps_by}
-use Rattle.root.specs.Root.{Record, empty, blank, Codec, Lawful, payload}
-use Rattle.root.proofs.Root.{May, lacks, shows, bare, may_more, blank_bare, Labelled, some_record}
+use Rattle.root.specs.Root.{Record, empty, blank, Codec, Lawful}
+use Rattle.root.proofs.Root.{lacks, bare, may_more, blank_bare, some_record}
 use Rattle.rows.specs.Rows.{Call, Reply, blank_state}
 use Rattle.stripes.specs.Coding.{Coding, LawfulCoding}
 use Rattle.stripes.specs.Stripes.{is_mark, Mem, judge, stripes, soon, StripesStand}
-use Rattle.stripes.proofs.Standing.{Zeros, IsRecord, NoRecord, no_record, Sit, Stand, no_drive, trusts, lacks_it, sit_fit, no_zeros, blank_zeros}
+use Rattle.stripes.proofs.Standing.{Zeros, no_record, Sit, Stand, no_drive, trusts, lacks_it, sit_fit, no_zeros, blank_zeros}
 use Rattle.stripes.proofs.Invariant.{St, R, Rows, Possible, Off, settled, unset, On, stands_cuts}
 use Rattle.stripes.proofs.Opening.{opens}
 use Rattle.stripes.proofs.Calls.{calls}

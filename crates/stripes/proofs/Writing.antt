@@ -1,24 +1,24 @@
 -- Writing a row: while it is written it is unknown, and all else stays.
 -- Assumes nothing.
-use mathlib.Core.Path.{◌≡◌, refl, sym, ◌∙◌, ap, subst, subst⁻¹}
-use mathlib.Core.Logic.{◌⊎◌, inl, inr, ⊎_elim}
-use mathlib.Core.Bool.{Bool, true, false, cond, true≢false}
+use mathlib.Core.Path.{◌≡◌, refl, sym, ◌∙◌, ap, subst⁻¹}
+use mathlib.Core.Logic.{⊎_elim}
+use mathlib.Core.Bool.{true, false, true≢false}
 use mathlib.Core.List.{List}
 use Prim.Native.Nat.{ℕ, suc, ◌<◌, ◌≤◌}
 use native.Mathlib.Omega.{arith}
-use Rattle.drives.specs.Drives.{Slot, gone, there, Drives, shown, written_to, put, Io}
+use Rattle.drives.specs.Drives.{Slot, gone, there, Drives, written_to, put, Io}
 use Rattle.drives.specs.Machines.{is_gone}
 use Rattle.crash.specs.Loops.{on_each, write_if}
 use Rattle.crash.specs.Refinement.{Does}
 use Rattle.crash.proofs.Updates.{same?, put_at_lem, put_off}
-use Rattle.crash.proofs.Sectors.{Sight, sees, sight, Holds, holds_sight, holds_write_off, sight_write, sight_write_off, shown_write_off}
+use Rattle.crash.proofs.Sectors.{sees, sight, holds_write_off, sight_write, sight_write_off, shown_write_off}
 use Rattle.crash.proofs.Does.{Each, does_loop, does_each, acts_write}
 use Rattle.root.specs.Root.{Record, Codec}
 use Rattle.rows.specs.Rows.{Cell, unknown, fresh, kept}
 use Rattle.rows.specs.Rows as rows
 use Rattle.stripes.specs.Coding.{Coding}
-use Rattle.stripes.specs.Stripes.{place_of, is_mark}
-use Rattle.stripes.proofs.Standing.{sec, label_off, same_row, same_sector, there_is, Cells, Has, Shows, Zeros, Stored, as_fresh, as_kept, Caught, IsRecord, Stand, no_drive, trusts, lacks_it, Fit, stand_fit}
+use Rattle.stripes.specs.Stripes.{is_mark}
+use Rattle.stripes.proofs.Standing.{sec, label_off, same_row, same_sector, Cells, Zeros, Stored, as_fresh, as_kept, Stand, no_drive, trusts, lacks_it, Fit, stand_fit}
 
 pub gone_same : (s : ℕ) (b : List ℕ) (x : Slot) → is_gone (written_to s b x) ≡ is_gone x
 unfolding written_to is_gone

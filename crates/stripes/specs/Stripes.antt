@@ -1,9 +1,9 @@
 -- Rows and one payload on six drives, of which two at a time may be lost, blank or half rebuilt.
 -- Assumes nothing.
-use Rattle.std.specs.Prelude.{◌≡◌, Bool, true, false, cond, not, ◌&&◌, List, [], ℕ, zero, suc, ◌+◌, ◌-◌, ◌*◌, ◌/◌, ◌≤◌, min, eqb, ltb, length}
+use Rattle.std.specs.Prelude.{Bool, true, false, cond, not, ◌&&◌, List, [], ℕ, zero, suc, ◌+◌, ◌-◌, ◌*◌, ◌/◌, ◌≤◌, min, eqb, ltb, length}
 use Rattle.std.proofs.Math.Option.{Option, none, some}
-use Rattle.drives.specs.Drives.{smallest, largest, Drives, put, Io, answer, ops_of}
-use Rattle.drives.specs.Machines.{Machine, Judge, Keeps, KeepsBy, Within}
+use Rattle.drives.specs.Drives.{Drives, put, Io, answer, ops_of}
+use Rattle.drives.specs.Machines.{Machine, Judge, KeepsBy, Within}
 use Rattle.crash.specs.Loops.{on_each, write_if, sync_all, read_all, read_if, count, any}
 use Rattle.root.specs.Root.{Label, missing, blank, rebuilding, has, Record, empty, committed, Codec, Lawful, trusted, payload, lowest}
 use Rattle.rows.specs.Rows.{Call, ReadRow, WriteRow, SetRoot, GetRoot, Reply, RowIs, Done, NoRow, PayloadIs, rows_judge, rows_in}

@@ -2,12 +2,9 @@
 -- Assumes nothing.
 use Rattle.std.specs.Prelude.{List, ℕ}
 use Rattle.drives.specs.Machines.{Machine}
-use Rattle.steps.specs.Steps.{Stepping, machine_of}
+use Rattle.steps.specs.Steps.{machine_of}
 use Rattle.steps.specs.Stacks.{stack_of}
-use Rattle.steps.specs.declared.Stack.{Stack}
-use Rattle.clock.specs.declared.Clock.{Clock}
 use Rattle.clock.specs.Spelled.{line_code}
-use Rattle.recorder.specs.declared.Recorder.{Recorder}
 use Rattle.recorder.specs.Recording.{recorder_code}
 use Rattle.lines.specs.Order.{only_time}
 use Rattle.promise.specs.Promise.{Whole}

@@ -1,10 +1,10 @@
-use Rattle.std.proofs.Common.{◌≡◌, Bool, true, subst}
+use Rattle.std.proofs.Common.{Bool, true, subst}
 use Rattle.meaning.specs.Rooms.{Reply}
 use Rattle.lines.specs.Calls.{line_of}
 use Rattle.lines.specs.Replies.{reply_bytes}
 use Rattle.fills.specs.Fills.{Wrote}
 use Rattle.answers.specs.Says.{says}
-use Rattle.clock.specs.Spelled.{reply_of, told_bytes}
+use Rattle.clock.specs.Spelled.{told_bytes}
 use Rattle.front.proofs.write_told.Goals as goal
 
 pub returns : goal.returns

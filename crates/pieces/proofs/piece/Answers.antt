@@ -1,6 +1,5 @@
-use Prim.Native.Nat.{◌<◌}
 use native.Mathlib.Omega.{arith}
-use mathlib.Core.Path.{◌≡◌, refl, ◌∙◌}
+use mathlib.Core.Path.{refl, ◌∙◌}
 use lib.ListN.{get_or, length}
 use Rattle.pieces.proofs.Pieces.{Four, good, is_first, is_second, is_third, is_fourth, is_lost}
 use Rattle.pieces.proofs.piece.Goals as goal

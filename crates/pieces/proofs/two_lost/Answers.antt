@@ -1,10 +1,10 @@
 use Prim.Native.Nat.{◌<◌}
 use native.Mathlib.Omega.{arith}
 use mathlib.Core.Logic.{◌≢◌}
-use mathlib.Core.Path.{◌≡◌, refl, sym, ◌∙◌, ap}
+use mathlib.Core.Path.{◌≡◌, refl, ◌∙◌, ap}
 use lib.ListN.{get_or, length}
 use Rattle.field.specs.Field.{dot, map4}
-use Rattle.field.specs.Stripe.{generator, lost_row}
+use Rattle.field.specs.Stripe.{generator}
 use Rattle.pieces.proofs.Pieces.{Four, good, is_first, is_second, is_one_lost, is_other_lost}
 use Rattle.pieces.proofs.two_lost.Goals as goal
 

@@ -1,6 +1,6 @@
 use Rattle.std.proofs.Common.{◌≡◌, ◌+◌, Bool, false, cond, eqb, length, get_or, drop, sym, ap, ◌∙◌, arith}
 use Rattle.std.proofs.lemmas.Bool.Decides.{nat_tests}
-use Rattle.console.specs.Hex.{most, read_from, number_of}
+use Rattle.console.specs.Hex.{most, read_from}
 use Rattle.console.proofs.Numbers.{onward, read_more, read_bad, read_all}
 use Rattle.console.proofs.digits.number.Goals as goal
 

@@ -1,4 +1,4 @@
-use Rattle.std.proofs.Common.{◌≡◌, ◌/◌, ◌%◌, [], ◌∷◌, ◌++◌, get_or, take, vec_items, sym, ap, ◌∙◌, append_assoc, append-nil, arith, take_all}
+use Rattle.std.proofs.Common.{◌≡◌, ◌/◌, ◌%◌, [], ◌∷◌, ◌++◌, get_or, vec_items, sym, ap, ◌∙◌, append_assoc, append-nil, arith, take_all}
 use Rattle.console.specs.Hex.{hexed, digit}
 use Rattle.console.proofs.Pairs.{hexed_more}
 use Rattle.console.proofs.digits.push_hex.Goals as goal

@@ -1,4 +1,4 @@
-use Rattle.std.proofs.Common.{◌<◌, rules}
+use Rattle.std.proofs.Common.{rules}
 use Rattle.field.proofs.Horner.{q_is}
 use Rattle.elements.proofs.bytes.weighted_byte.Goals as goal
 

@@ -1,4 +1,4 @@
-use Rattle.std.proofs.Common.{◌≡◌, ◌∙◌, arith, lit<}
+use Rattle.std.proofs.Common.{◌∙◌, lit<}
 use Rattle.field.specs.Field.{row}
 use Rattle.elements.proofs.Blends.{blend_none, blend_all}
 use Rattle.elements.proofs.lanes.blended.Goals as goal

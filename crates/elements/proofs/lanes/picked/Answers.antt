@@ -1,4 +1,4 @@
-use Rattle.std.proofs.Common.{◌≡◌, ◌/◌, ◌%◌, ◌^◌, ◌∙◌, arith}
+use Rattle.std.proofs.Common.{◌/◌, ◌%◌, ◌^◌, ◌∙◌, arith}
 use Rattle.elements.proofs.Blends.{all_lanes, no_lanes}
 use Rattle.elements.proofs.lanes.picked.Goals as goal
 use Rattle.elements.proofs.lanes.picked.Goals.{then-c-k-eq1, else-c-k-eq1}

@@ -1,4 +1,4 @@
-use Rattle.std.proofs.Common.{◌≡◌, arith}
+use Rattle.std.proofs.Common.{arith}
 use Rattle.field.specs.Field.{row}
 use Rattle.elements.proofs.Blends.{blend_bit}
 use Rattle.elements.proofs.lanes.stepped.Goals as goal

@@ -1,6 +1,3 @@
-use Rattle.std.proofs.Common.{◌≡◌, ap, ◌∙◌}
-use lib.Bits.{bit_xor}
-use lib.Lanes.{zip2}
 use Rattle.elements.proofs.Words.{weighted_lanes}
 use Rattle.elements.proofs.lanes.weighted.Goals as goal
 

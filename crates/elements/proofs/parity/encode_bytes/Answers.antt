@@ -1,4 +1,4 @@
-use Rattle.std.proofs.Common.{◌≡◌, ◌<◌, length, get_or, arith, rules}
+use Rattle.std.proofs.Common.{◌<◌, length, get_or, arith, rules}
 use Rattle.field.specs.Field.{dot}
 use Rattle.field.specs.Stripe.{generator}
 use Rattle.field.proofs.Horner.{p_is}

@@ -1,5 +1,4 @@
-use Rattle.std.proofs.Common.{◌≡◌, ◌<◌, length, get_or, arith}
-use lib.Bits.{bit_xor}
+use Rattle.std.proofs.Common.{◌<◌, length, arith}
 use Rattle.field.specs.Field.{dot, row}
 use Rattle.elements.proofs.Steps.{byte_more, whole}
 use Rattle.elements.proofs.sums.blend_bytes.Goals as goal

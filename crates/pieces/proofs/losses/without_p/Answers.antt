@@ -1,5 +1,5 @@
 use native.Mathlib.Omega.{arith}
-use mathlib.Core.Path.{◌≡◌, refl}
+use mathlib.Core.Path.{refl}
 use Rattle.field.specs.Field.{double, by, times, row, dot}
 use Rattle.field.specs.Stripe.{inverse, lost_row}
 use Rattle.pieces.proofs.LostRows.{arm}

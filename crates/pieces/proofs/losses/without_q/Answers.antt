@@ -1,5 +1,4 @@
 use mathlib.Core.Path.{refl}
-use Prim.Native.Nat.{◌<◌}
 use native.Mathlib.Omega.{arith}
 use Rattle.field.specs.Field.{row}
 use Rattle.pieces.proofs.LostRows.{arm, sum_row}

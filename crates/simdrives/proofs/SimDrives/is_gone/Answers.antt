@@ -1,4 +1,4 @@
-use Rattle.std.proofs.Common.{◌≡◌, ◌<◌, ◌≤◌, length, vec_items, sym, ap, ◌∙◌, arith}
+use Rattle.std.proofs.Common.{◌<◌, ◌≤◌, length, vec_items, sym, ap, ◌∙◌, arith}
 use Rattle.drives.specs.Machines.{is_gone}
 use Rattle.simdrives.proofs.Slotted.{at_slot, past, told_gone, gone_is_gone}
 use Rattle.simdrives.proofs.SimDrives.is_gone.Goals as goal

@@ -1,8 +1,7 @@
-use Rattle.std.proofs.Common.{◌≡◌, ◌<◌, ◌≤◌, cond, length, vec_items, sym, refl, ap, ◌∙◌, arith, rules}
-use Rattle.drives.specs.Drives.{synced_one, written_to, gone}
-use Rattle.simdrives.specs.Sims.{slots, slot_of}
-use Rattle.simdrives.specs.Powers.{works}
-use Rattle.simdrives.proofs.Slotted.{at_slot, changed, past, past_same, put_same, cut_past, read_gone, synced_gone, written_gone, when_on}
+use Rattle.std.proofs.Common.{◌≤◌, length, vec_items, sym, arith}
+use Rattle.drives.specs.Drives.{gone}
+use Rattle.simdrives.specs.Sims.{slots}
+use Rattle.simdrives.proofs.Slotted.{past, put_same}
 use Rattle.simdrives.proofs.SimDrives.lose.Goals as goal
 
 pub returns-else-drive-len : goal.returns-else-drive-len

@@ -1,4 +1,4 @@
-use Rattle.std.proofs.Common.{◌≡◌, get_or, None, vec_items, sym, refl, ap, ◌∙◌, arith, rules, below_more}
+use Rattle.std.proofs.Common.{get_or, None, vec_items, sym, refl, ap, ◌∙◌, arith, below_more}
 use Rattle.simdrives.specs.Sims.{slot_of}
 use Rattle.simdrives.proofs.SimDrives.new.Goals as goal
 

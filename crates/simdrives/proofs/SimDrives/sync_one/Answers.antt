@@ -1,8 +1,8 @@
-use Rattle.std.proofs.Common.{◌≡◌, ◌<◌, ◌≤◌, cond, length, vec_items, sym, refl, ap, ◌∙◌, arith, rules}
-use Rattle.drives.specs.Drives.{synced_one, written_to, gone}
+use Rattle.std.proofs.Common.{◌≡◌, ◌<◌, ◌≤◌, length, vec_items, sym, ap, ◌∙◌, arith}
+use Rattle.drives.specs.Drives.{synced_one}
 use Rattle.simdrives.specs.Sims.{slots, slot_of}
 use Rattle.simdrives.specs.Powers.{works}
-use Rattle.simdrives.proofs.Slotted.{at_slot, changed, past, past_same, put_same, cut_past, read_gone, synced_gone, written_gone, when_on}
+use Rattle.simdrives.proofs.Slotted.{at_slot, changed, past_same, synced_gone, when_on}
 use Rattle.simdrives.proofs.SimDrives.sync_one.Goals as goal
 
 pub returns-then-drive-len : goal.returns-then-drive-len

@@ -1,8 +1,8 @@
 use Rattle.std.proofs.Common.{◌≡◌, ◌<◌, ◌≤◌, cond, length, vec_items, sym, refl, ap, ◌∙◌, arith, rules}
-use Rattle.drives.specs.Drives.{synced_one, written_to, gone}
+use Rattle.drives.specs.Drives.{written_to}
 use Rattle.simdrives.specs.Sims.{slots, slot_of}
 use Rattle.simdrives.specs.Powers.{works}
-use Rattle.simdrives.proofs.Slotted.{at_slot, changed, past, past_same, put_same, cut_past, read_gone, synced_gone, written_gone, when_on}
+use Rattle.simdrives.proofs.Slotted.{at_slot, changed, past_same, put_same, written_gone, when_on}
 use Rattle.simdrives.proofs.SimDrives.write_one.Goals as goal
 
 pub returns-then-not-done : goal.returns-then-not-done

@@ -1,4 +1,4 @@
-use Rattle.std.proofs.Common.{◌≡◌, ◌<◌, length, sym, zero-add, arith}
+use Rattle.std.proofs.Common.{◌<◌, length, sym, zero-add, arith}
 use Rattle.std.proofs.lemmas.Bool.Decides.{nat_tests}
 use Rattle.script.proofs.Weakened.{others_more, others_all}
 use Rattle.script.proofs.weak.Weak.others.Goals as goal

@@ -1,4 +1,4 @@
-use Rattle.std.proofs.Common.{box_value, sym, refl, ap, ◌∙◌}
+use Rattle.std.proofs.Common.{box_value, sym, ap, ◌∙◌}
 use Rattle.simdrives.specs.Sims.{bytes_of}
 use Rattle.simdrives.proofs.Undone.{read_is, zeros_so}
 use Rattle.simdrives.proofs.sectors.Sectors.read.Goals as goal

@@ -1,6 +1,4 @@
-use Rattle.std.proofs.Common.{◌≡◌, false, [], ◌∷◌, ◌++◌, box_value, sym, ap, ◌∙◌, rules}
-use Rattle.std.specs.BTreeMap as tree
-use Rattle.std.specs.Ordering.{nat_cmp}
+use Rattle.std.proofs.Common.{[], ◌∷◌, ◌++◌, box_value, sym, ap, ◌∙◌, rules}
 use Rattle.std.proofs.lemmas.Bool.Decides.{nat_tests}
 use Rattle.simdrives.specs.Sims.{bytes_of}
 use Rattle.simdrives.specs.declared.sectors.Before.{Before}
