@@ -1,4 +1,4 @@
-// `pieces` for programs in C and Rust that link it: `rt staticlib pieces_c`. A slice is a pointer and a length there.
+// `pieces` for programs in C and Rust that link it: `rt lib` in crates/pieces_c. A slice is a pointer and a length there.
 #![tactic(auto)]
 
 ghost use Rattle.std.specs.Prelude.{ltb, length, cond, ◌&&◌, [], ◌∷◌, ◌≡◌};
