@@ -1,2 +1,3 @@
+pub mod Planned
 pub mod Hearing
 pub mod Standing

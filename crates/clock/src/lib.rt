@@ -1,10 +1,11 @@
 // Telling the time: the first call that is built. It is kept by whatever keeps a payload.
 #![tactic(auto)]
 
-ghost use Rattle.std.specs.Prelude.{◌≡◌, None};
+ghost use Rattle.std.specs.Prelude.{◌≡◌, None, true, false, refl};
 ghost use Rattle.clock.specs.Clock.{clock_code, spoken, clock_same, turn_in};
 ghost use Rattle.clock.specs.Spelled.{ClockKeeps};
-ghost use Rattle.clock.specs.Planned.{clock_planned};
+ghost use Rattle.clock.specs.Planned.{TellsSo, planned_so};
+ghost use Rattle.steps.specs.Stacks.{Plans};
 
 use lines::order::Refusal;
 use register::{Call, Payload, Reply};
@@ -76,7 +77,7 @@ impl Planner for Clock {
 
     ghost same = { clock_same };
 
-    ghost planned = { λ size lo hi. clock_planned size };
+    ghost planned = { λ size lo hi. planned_so (λ b tag t time. elim b as (λ b. TellsSo b tag t time) [ true ↦ Plans.calls (λ r. Plans.ends (refl, refl)) | false ↦ Plans.ends (refl, refl) ]) size };
 
     fn open(&mut self, size: u64) {
         *self = Clock {

@@ -92,7 +92,7 @@ fn two_lost(
     requires x_len { (length x.now ≡ length w.now) × ((length y.now ≡ length w.now) × (length z.now ≡ length w.now)) }
     requires k_len { (length k.old ≡ length w.now) × ((length l.old ≡ length w.now) × ((length one.old ≡ length w.now) × (length two.old ≡ length w.now))) }
     requires places_value { (get_or places 2 0 ≡ 4) × ((first < second) × (second < 4)) }
-    requires first_nonzero { (first ≢ get_or places 0 0) × ((first ≢ get_or places 1 0) × ((second ≢ get_or places 0 0) × (second ≢ get_or places 1 0))) }
+    requires others_lost { (first ≢ get_or places 0 0) × ((first ≢ get_or places 1 0) × ((second ≢ get_or places 0 0) × (second ≢ get_or places 1 0))) }
     ensures k { k.new ≡ rebuilt (four_held (get_or places 0 0) (get_or places 1 0) (get_or places 2 0) (get_or places 3 0) w.now x.now y.now z.now) (get_or places 0 0) }
     ensures l { l.new ≡ rebuilt (four_held (get_or places 0 0) (get_or places 1 0) (get_or places 2 0) (get_or places 3 0) w.now x.now y.now z.now) (get_or places 1 0) }
     ensures one { one.new ≡ rebuilt (four_held (get_or places 0 0) (get_or places 1 0) (get_or places 2 0) (get_or places 3 0) w.now x.now y.now z.now) first }

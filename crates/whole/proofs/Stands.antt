@@ -19,7 +19,7 @@ use Rattle.register.specs.Register.{register}
 use Rattle.clock.specs.declared.Clock.{Clock}
 use Rattle.clock.specs.Clock.{clock_same}
 use Rattle.clock.specs.Spelled.{clock, line_code}
-use Rattle.clock.specs.Planned.{lines_planned}
+use Rattle.clock.proofs.Planned.{lines_planned}
 use Rattle.clock.proofs.Standing.{clock_keeps}
 use Rattle.recorder.specs.declared.Recorder.{Recorder}
 use Rattle.recorder.specs.Recording.{recorder_code, recorded, recorder_same}
