@@ -12,17 +12,12 @@ need() {
 
 # program NAME: the path of a proved and built program; it is built if it isn't there, or if a source is newer
 program() {
-    local bin="$PWD/target/bin/$1"
-    if [ ! -x "$bin" ] || [ -n "$(find crates crates.txt -name out -prune -o -type f -newer "$bin" -print -quit)" ]; then
+    local built="crates/$1/out/$1"
+    if [ ! -x "$built" ] || [ -n "$(find crates crates.txt -name out -prune -o -type f -newer "$built" -print -quit)" ]; then
         say "proving and building $1 (minutes the first time)" >&2
-        build_program "$1" >&2 || { printf '0 passed, 1 failed\n'; exit 1; }
+        (cd "crates/$1" && rt run </dev/null) >&2 || { printf '0 passed, 1 failed\n'; exit 1; }
     fi
-    printf '%s\n' "$bin"
-}
-
-# build_program NAME: proves and builds it, and puts it in target/bin; what was proved before is taken over
-build_program() {
-    mkdir -p target/bin && (cd "crates/$1" && rt run </dev/null >/dev/null) && cp "crates/$1/out/$1" target/bin/ && touch "target/bin/$1"
+    mkdir -p target/bin && cp -p "$built" target/bin/ && printf '%s\n' "$PWD/target/bin/$1"
 }
 
 passed=0 failed=0

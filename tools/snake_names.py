@@ -12,11 +12,17 @@ import re
 import sys
 
 # Names that would fall together with another one, or with a word of Rattle's, get one of their own: a lemma on a definition ends in _lem.
+# What is a type keeps a capital: a relation is named as one.
 OWN = {
+    "clockSame": "ClockSame",
+    "echoSame": "EchoSame",
+    "recorderSame": "RecorderSame",
+    "twiceSame": "TwiceSame",
     "at-end": "at_end_lem",
     "bit-xor": "bit_xor_lem",
     "block-of": "block_of_lem",
     "cut-beside": "cut_beside_lem",
+    "in-room": "in_the_room",
     "is-row": "row_fits",
     "is-there": "is_there_lem",
     "isBlock": "fits_block",
@@ -30,6 +36,8 @@ OWN = {
     "tells-time": "tells_the_time",
     "time-of": "time_of_lem",
 }
+
+KEPT = {"not-nil"}  # of mathlib's membership
 
 # Names that may fall together: a constructor, which is named by its type, and a field or a lemma.
 SHARED = "call_cut goes_on loses_off loses_on opening_cut replaces_off replaces_on rise_cut".split()
@@ -82,8 +90,8 @@ def main():
                     names |= {n for n in head[1].split() if not MADE.match(n)}
         else:
             names |= {m[0] for m in NAME.finditer(plain) if m[0][0].islower()}
-    turned = {n: snake(n) for n in names - library if n[0].islower() and ("-" in n or is_camel(n))}
-    turned = {a: b for a, b in turned.items() if a != b and not MADE.match(a)}
+    turned = {n: snake(n) for n in names - library - KEPT if n[0].islower() and ("-" in n or is_camel(n))}
+    turned = {a: b for a, b in turned.items() if a != b}
     taken = {}
     for a, b in sorted(turned.items()):
         taken.setdefault(b, []).append(a)

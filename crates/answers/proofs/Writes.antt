@@ -8,7 +8,7 @@ use Rattle.lines.specs.Fields.{number}
 use Rattle.lines.specs.declared.order.Refusal.{Refusal}
 use Rattle.lines.specs.Turns.{number_of}
 use Rattle.lines.specs.Fits.{Bytes, is_name}
-use Rattle.lines.proofs.Laws.{all_written, entry-laws}
+use Rattle.lines.proofs.Laws.{all_written, entry_laws}
 use Rattle.lines.specs.Replies.{entry, entry_in, reply_bytes}
 use Rattle.fills.specs.declared.Field.{Field}
 use Rattle.fills.specs.declared.Field.TheVariants.{U8, U16, U64, Name, Content, Plain}
@@ -55,7 +55,7 @@ got_is n size bs = record { fit = whole_says (length bs.now) _ (omega (arith, ap
 pub list_is : (n : ℕ) (es : Bor (List ℕ)) → Bytes es.now → are_many entry_in n es.now ≡ true → Is (U8 4 ∷ U16 n ∷ Plain es ∷ []) (Listing n es)
 unfolding every many
 list_is n es b h =
-    let w = all_written entry-laws n es.now b h in
+    let w = all_written entry_laws n es.now b h in
     let body : reply_bytes (says (Listing n es)) ≡ number 1 4 ++ (number 2 n ++ (es.now ++ [])) =
     ap (λ (m : ℕ). number 1 4 ++ (number 2 m ++ (many entry (all_in entry_in n es.now) ++ []))) w.1 ∙ ap (λ (l : List ℕ). number 1 4 ++ (number 2 n ++ (l ++ []))) (sym w.0) in
     record {
@@ -65,17 +65,17 @@ list_is n es b h =
     }
 
 -- an entry has at most 272 bytes
-entry-fits : (m n : ℕ) → (m < 256 → n < 4294967296) → ((ltb m 256 && true) && ltb n 4294967296) ≡ ltb m 256
-entry-fits m n h = go (ltb m 256) (leb_tells (suc m) 256)
+entry_fits : (m n : ℕ) → (m < 256 → n < 4294967296) → ((ltb m 256 && true) && ltb n 4294967296) ≡ ltb m 256
+entry_fits m n h = go (ltb m 256) (leb_tells (suc m) 256)
   where
     go : (t : Bool) → ((t ≡ true) × (m < 256)) ⊎ ((t ≡ false) × (256 < suc m)) → ((t && true) && ltb n 4294967296) ≡ t
     go true (inl p) = let s : n < 4294967296 = h p.1 in grind (arith, nat_tests)
     go true (inr p) = let z : ◌≡◌ {A = ℕ} 0 1 = cc in absurd (omega arith)
     go false p = refl
 
-pub entry-added : (key : Bor (List ℕ)) (m n at : ℕ) (out : List ℕ) (r : Option ℕ) (after : List ℕ) → Added (line_fits (Name key ∷ U64 m ∷ U64 n ∷ [])) at (body_bytes (Name key ∷ U64 m ∷ U64 n ∷ [])) out r after →
+pub entry_added : (key : Bor (List ℕ)) (m n at : ℕ) (out : List ℕ) (r : Option ℕ) (after : List ℕ) → Added (line_fits (Name key ∷ U64 m ∷ U64 n ∷ [])) at (body_bytes (Name key ∷ U64 m ∷ U64 n ∷ [])) out r after →
     Added (is_name key.now) at (entry (record { key = key.now; num = m; size = n })) out r after
 unfolding every many
-entry-added key m n at out r after h =
+entry_added key m n at out r after h =
     subst (λ (t : Bool). Added t at (entry (record { key = key.now; num = m; size = n })) out r after)
-    (entry-fits (length key.now) _ (λ k. omega (arith, length-append key.now (number 8 m ++ (number 8 n ++ []))))) h
+    (entry_fits (length key.now) _ (λ k. omega (arith, length-append key.now (number 8 m ++ (number 8 n ++ []))))) h

@@ -9,7 +9,7 @@ use Rattle.register.specs.declared.Reply.{Reply}
 use Rattle.lines.specs.Order.{tag_of}
 use Rattle.clock.specs.declared.Phase.TheVariants.{Begun}
 use Rattle.clock.specs.declared.Clock.{Clock}
-use Rattle.clock.specs.Clock.{Spoken, turn_in, clock_code, spoken, clock_same}
+use Rattle.clock.specs.Clock.{Spoken, turn_in, clock_code, spoken, ClockSame}
 use Rattle.clock.specs.Spelled.{asked_in, Written, told_bytes, retold, clock, line_code}
 use Rattle.clock.specs.Planned.{Ends, TellsAsPlanned, answers, planned_so}
 
@@ -17,7 +17,7 @@ tells : TellsAsPlanned
 tells true tag t time = Plans.calls (λ r. Plans.ends (refl, refl))
 tells false tag t time = Plans.ends (refl, refl)
 
-pub clock_planned : (size : ℕ) → Planned clock_code 2 size spoken (clock_same size)
+pub clock_planned : (size : ℕ) → Planned clock_code 2 size spoken (ClockSame size)
 clock_planned = planned_so tells
 
 abbrev EndsWritten : Clock → Written → Type 0
@@ -28,7 +28,7 @@ unfolding retold
 written (Plans.ends (e, t)) = Plans.ends (ap told_bytes e, t)
 written (Plans.calls k) = Plans.calls (λ r. written (k r))
 
-pub lines_planned : (longest size : ℕ) → Planned (line_code longest) 2 size (clock longest) (clock_same size)
+pub lines_planned : (longest size : ℕ) → Planned (line_code longest) 2 size (clock longest) (ClockSame size)
 lines_planned longest size =
     record {
       rises = (clock_planned size).rises;

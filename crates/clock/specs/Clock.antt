@@ -87,5 +87,5 @@ clock_code =
     }
 
 -- the time in memory is the one of the plan
-abbrev pub clock_same : ℕ → Clock → ℕ → Type 0
-clock_same size u m = u.time ≡ m
+abbrev pub ClockSame : ℕ → Clock → ℕ → Type 0
+ClockSame size u m = u.time ≡ m

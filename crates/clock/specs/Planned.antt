@@ -12,7 +12,7 @@ use Rattle.clock.specs.declared.Clock.{Clock}
 use Rattle.lines.specs.declared.order.Refusal.TheVariants.{Wrong}
 use Rattle.register.specs.declared.Call.TheVariants.{Set}
 use Rattle.steps.specs.declared.Next.TheVariants as next
-use Rattle.clock.specs.Clock.{Spoken, tells_if, answers_to, goes, turn_in, clock_code, spoken, clock_same}
+use Rattle.clock.specs.Clock.{Spoken, tells_if, answers_to, goes, turn_in, clock_code, spoken, ClockSame}
 
 -- what is left at the end: the reply and the time
 abbrev pub Ends : Clock → Spoken → Type 0
@@ -32,7 +32,7 @@ pub answers : TellsAsPlanned → (h : Heard) (tag time : ℕ) → Plans clock_co
 answers tells (Refused why) tag time = Plans.ends (refl, refl)
 answers tells (Tells t) tag time = tells (small t && nat_lt 0 t) tag t time
 
-pub planned_so : TellsAsPlanned → (size : ℕ) → Planned clock_code 2 size spoken (clock_same size)
+pub planned_so : TellsAsPlanned → (size : ℕ) → Planned clock_code 2 size spoken (ClockSame size)
 planned_so tells size =
     record {
       rises = Plans.calls (λ r. Plans.ends refl);

@@ -2,7 +2,7 @@
 #![tactic(auto)]
 
 ghost use Rattle.std.specs.Prelude.{◌≡◌, None, true, false, refl};
-ghost use Rattle.clock.specs.Clock.{clock_code, spoken, clock_same, turn_in};
+ghost use Rattle.clock.specs.Clock.{clock_code, spoken, ClockSame, turn_in};
 ghost use Rattle.clock.specs.Spelled.{ClockKeeps};
 ghost use Rattle.clock.specs.Planned.{TellsSo, planned_so};
 ghost use Rattle.steps.specs.Stacks.{Plans};
@@ -75,7 +75,7 @@ impl Planner for Clock {
 
     ghost most = { 2 };
 
-    ghost same = { clock_same };
+    ghost same = { ClockSame };
 
     ghost planned = { λ size lo hi. planned_so (λ b tag t time. elim b as (λ b. TellsSo b tag t time) [ true ↦ Plans.calls (λ r. Plans.ends (refl, refl)) | false ↦ Plans.ends (refl, refl) ]) size };
 

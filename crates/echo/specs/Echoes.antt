@@ -49,5 +49,5 @@ echoes =
       mends = λ m. answer (record { whole = true; mem = tt });
     }
 
-abbrev pub echo_same : ℕ → Held Echo → Unit {0} → Type 0
-echo_same size h m = Ample h.lent
+abbrev pub EchoSame : ℕ → Held Echo → Unit {0} → Type 0
+EchoSame size h m = Ample h.lent

@@ -7,10 +7,10 @@ use Rattle.steps.specs.Stacks.{Planned, Plans}
 use Rattle.steps.specs.Does.{whether}
 use Rattle.steps.proofs.Turns.{wanted}
 use Rattle.steps.proofs.Lents.{unused_ample, placed_ample, sector_placed}
-use Rattle.echo.specs.Echoes.{echo_code, echoes, echo_same}
-use Rattle.echo.specs.Twices.{twice_code, twices, twice_same}
+use Rattle.echo.specs.Echoes.{echo_code, echoes, EchoSame}
+use Rattle.echo.specs.Twices.{twice_code, twices, TwiceSame}
 
-pub echo_tied : (size : ℕ) → Tied echo_code 4 size echoes (echo_same size)
+pub echo_tied : (size : ℕ) → Tied echo_code 4 size echoes (EchoSame size)
 echo_tied size =
     record {
       opens = Goes.ends unused_ample;
@@ -20,7 +20,7 @@ echo_tied size =
       mends = λ h m s. Goes.ends (refl, s);
     }
 
-pub twice_planned : (size : ℕ) → Planned twice_code 3 size twices (twice_same size)
+pub twice_planned : (size : ℕ) → Planned twice_code 3 size twices (TwiceSame size)
 twice_planned size =
     record {
       rises = Plans.ends tt;

@@ -35,5 +35,5 @@ twices =
       answers = λ s m. asks s (λ ok. cond ok (asks 7 (λ ok. gives (record { reply = ok; mem = tt }))) (gives (record { reply = false; mem = tt })));
     }
 
-abbrev pub twice_same : ℕ → Twice → Unit {0} → Type 0
-twice_same size t m = Unit {0}
+abbrev pub TwiceSame : ℕ → Twice → Unit {0} → Type 0
+TwiceSame size t m = Unit {0}

@@ -2,8 +2,8 @@
 #![tactic(auto)]
 
 ghost use Rattle.std.specs.Prelude.{◌≡◌};
-ghost use Rattle.echo.specs.Echoes.{echo_code, echoes, echo_same};
-ghost use Rattle.echo.specs.Twices.{twice_code, twices, twice_same};
+ghost use Rattle.echo.specs.Echoes.{echo_code, echoes, EchoSame};
+ghost use Rattle.echo.specs.Twices.{twice_code, twices, TwiceSame};
 ghost use Rattle.drives.specs.Layers.{over};
 ghost use Rattle.steps.specs.Steps.{Ample};
 ghost use Rattle.steps.specs.Stacks.{Asked};
@@ -47,7 +47,7 @@ impl Stepper for Echo {
 
     ghost most = { 4 };
 
-    ghost same = { echo_same };
+    ghost same = { EchoSame };
 
     ghost tied = { λ size lo hi. echo_tied size };
 
@@ -143,7 +143,7 @@ impl Planner for Twice {
 
     ghost most = { 3 };
 
-    ghost same = { twice_same };
+    ghost same = { TwiceSame };
 
     ghost planned = { λ size lo hi. twice_planned size };
 

@@ -6,7 +6,7 @@ use Rattle.lines.specs.Fields.{◌then◌, number, number_in}
 use Rattle.lines.specs.Calls.{line_of}
 use Rattle.lines.specs.Fits.{Bytes, NumberFits}
 use Rattle.lines.specs.Order.{tag_of}
-use Rattle.lines.proofs.Laws.{then_some, then-forth, number_laws, value_number}
+use Rattle.lines.proofs.Laws.{then_some, then_forth, number_laws, value_number}
 
 -- a line, read on behind its tag
 abbrev pub line_in : {B : Type 0} → (ℕ → List ℕ → Option B) → List ℕ → Option B
@@ -20,8 +20,8 @@ pub line_forth : {B : Type 0} (f : ℕ → List ℕ → Option B) (tag : ℕ) (b
 line_forth {B} f tag body ht hl =
     let right : eqb (4 + length body) (length (number 4 tag ++ body)) ≡ true = grind (arith, nat_tests) in
     ap (line_in f) (line_is tag body)
-    ∙ then-forth (number_laws 4) (4 + length body) (number 4 tag ++ body) (λ n l. cond (eqb n (length l)) (number_in 4 l then f) None) (f tag body) hl
-    (ap (λ (b : Bool). cond b (number_in 4 (number 4 tag ++ body) then f) None) right ∙ then-forth (number_laws 4) tag body f (f tag body) ht refl)
+    ∙ then_forth (number_laws 4) (4 + length body) (number 4 tag ++ body) (λ n l. cond (eqb n (length l)) (number_in 4 l then f) None) (f tag body) hl
+    (ap (λ (b : Bool). cond b (number_in 4 (number 4 tag ++ body) then f) None) right ∙ then_forth (number_laws 4) tag body f (f tag body) ht refl)
 
 -- what a line that is read comes to
 pub record Line {B : Type 0} (f : ℕ → List ℕ → Option B) (l : List ℕ) (b : B) : Type 0 where

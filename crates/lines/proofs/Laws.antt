@@ -105,11 +105,11 @@ bytes_back n l bs rest b e =
     )
 
 -- go on behind a field that is there
-pub then-forth : {A B : Type 0} {write : A → List ℕ} {read : List ℕ → Option (Took A)} {Ok : A → Type 0} → Laws write read Ok → (a : A) (l : List ℕ) (f : A → List ℕ → Option B) (o : Option B) → Ok a → f a l ≡ o → (read (write a ++ l) then f) ≡ o
-then-forth laws a l f o ok e = rw (laws.forth a l ok) e
+pub then_forth : {A B : Type 0} {write : A → List ℕ} {read : List ℕ → Option (Took A)} {Ok : A → Type 0} → Laws write read Ok → (a : A) (l : List ℕ) (f : A → List ℕ → Option B) (o : Option B) → Ok a → f a l ≡ o → (read (write a ++ l) then f) ≡ o
+then_forth laws a l f o ok e = rw (laws.forth a l ok) e
 
 counted_forth : (k : ℕ) (bs l : List ℕ) → CountedFits k bs → counted_in k (counted k bs ++ l) ≡ Some (took bs l)
-counted_forth k bs l ok = rw append_assoc (then-forth (number_laws k) (length bs) (bs ++ l) (λ n rest. bytes_in n rest) (Some (took bs l)) ok.0 (bytes_forth bs l))
+counted_forth k bs l ok = rw append_assoc (then_forth (number_laws k) (length bs) (bs ++ l) (λ n rest. bytes_in n rest) (Some (took bs l)) ok.0 (bytes_forth bs l))
 
 counted_back : (k : ℕ) (l bs rest : List ℕ) → Bytes l → counted_in k l ≡ Some (took bs rest) → (l ≡ counted k bs ++ rest) × CountedFits k bs × Bytes rest
 counted_back k l bs rest b e =
@@ -131,7 +131,7 @@ pub record Forth {C : Type 0} (c : C) (l : List ℕ) (p : List ℕ → Option C)
   pub reads : p l ≡ Some c
 
 pub go_on : {A C : Type 0} {write : A → List ℕ} {read : List ℕ → Option (Took A)} {Ok : A → Type 0} {c : C} → Laws write read Ok → (a : A) (l : List ℕ) (f : A → List ℕ → Option C) → Ok a → Forth c l (f a) → Forth c (write a ++ l) (λ l. read l then f)
-go_on {c = c} laws a l f ok e = record { reads = then-forth laws a l f (Some c) ok e.reads }
+go_on {c = c} laws a l f ok e = record { reads = then_forth laws a l f (Some c) ok e.reads }
 
 pub done : {C : Type 0} (c : C) → Forth c [] (λ l. at_end l c)
 done c = record { reads = refl }
@@ -140,9 +140,9 @@ done c = record { reads = refl }
 pub record Back {C : Type 0} (Says : C → List ℕ → Type 0) (w : List ℕ → List ℕ) (p : List ℕ → Option C) : Type 0 where
   pub says : (l : List ℕ) (c : C) → Bytes l → p l ≡ Some c → Says c (w l)
 
-pub then-back : {A C : Type 0} {write : A → List ℕ} {read : List ℕ → Option (Took A)} {Ok : A → Type 0} {Says : C → List ℕ → Type 0} → Laws write read Ok → (w : List ℕ → List ℕ) (f : A → List ℕ → Option C) →
+pub then_back : {A C : Type 0} {write : A → List ℕ} {read : List ℕ → Option (Took A)} {Ok : A → Type 0} {Says : C → List ℕ → Type 0} → Laws write read Ok → (w : List ℕ → List ℕ) (f : A → List ℕ → Option C) →
     ((a : A) → Ok a → Back Says (λ l. w (write a ++ l)) (f a)) → Back Says w (λ l. read l then f)
-then-back {C = C} {read = read} {Says = Says} laws w f go = record { says = says }
+then_back {C = C} {read = read} {Says = Says} laws w f go = record { says = says }
   where
     says : (l : List ℕ) (c : C) → Bytes l → (read l then f) ≡ Some c → Says c (w l)
     says l c b e =
@@ -197,11 +197,11 @@ pub flag_laws : Laws flag flag_in FlagFits
 flag_laws = record { forth = forth; back = λ l a rest b e. back.says l (took a rest) b e }
   where
     forth : (a : Bool) (l : List ℕ) → FlagFits a → flag_in (flag a ++ l) ≡ Some (took a l)
-    forth true l ok = then-forth (number_laws 1) 1 l flag_of (Some (took true l)) (omega arith) refl
-    forth false l ok = then-forth (number_laws 1) 0 l flag_of (Some (took false l)) (omega arith) refl
+    forth true l ok = then_forth (number_laws 1) 1 l flag_of (Some (took true l)) (omega arith) refl
+    forth false l ok = then_forth (number_laws 1) 0 l flag_of (Some (took false l)) (omega arith) refl
 
     back : Back (Field flag FlagFits) (λ l. l) flag_in
-    back = then-back (number_laws 1) (λ l. l) flag_of (λ n h.
+    back = then_back (number_laws 1) (λ l. l) flag_of (λ n h.
         kind_back _ n 0 _ _ (λ e. leaf_back _ _ (λ l b. (ap (λ (n : ℕ). number 1 n ++ l) e, tt, b)))
         (kind_back _ n 1 _ _ (λ e. leaf_back _ _ (λ l b. (ap (λ (n : ℕ). number 1 n ++ l) e, tt, b))) (none_back _)))
 
@@ -209,15 +209,15 @@ pub expected_laws : Laws expected expected_in ExpectFits
 expected_laws = record { forth = forth; back = λ l a rest b e. back.says l (took a rest) b e }
   where
     forth : (a : Expect) (l : List ℕ) → ExpectFits a → expected_in (expected a ++ l) ≡ Some (took a l)
-    forth Any l ok = then-forth (number_laws 1) 0 l expected_of (Some (took Any l)) (omega arith) refl
-    forth Absent l ok = then-forth (number_laws 1) 1 l expected_of (Some (took Absent l)) (omega arith) refl
-    forth (Is n) l ok = then-forth (number_laws 1) 2 (number 8 n ++ l) expected_of (Some (took (Is n) l)) (omega arith) (then-forth (number_laws 8) n l (λ n l. Some (took (Is n) l)) (Some (took (Is n) l)) ok refl)
+    forth Any l ok = then_forth (number_laws 1) 0 l expected_of (Some (took Any l)) (omega arith) refl
+    forth Absent l ok = then_forth (number_laws 1) 1 l expected_of (Some (took Absent l)) (omega arith) refl
+    forth (Is n) l ok = then_forth (number_laws 1) 2 (number 8 n ++ l) expected_of (Some (took (Is n) l)) (omega arith) (then_forth (number_laws 8) n l (λ n l. Some (took (Is n) l)) (Some (took (Is n) l)) ok refl)
 
     back : Back (Field expected ExpectFits) (λ l. l) expected_in
-    back = then-back (number_laws 1) (λ l. l) expected_of (λ n h.
+    back = then_back (number_laws 1) (λ l. l) expected_of (λ n h.
         kind_back _ n 0 _ _ (λ e. leaf_back _ _ (λ l b. (ap (λ (n : ℕ). number 1 n ++ l) e, tt, b)))
         (kind_back _ n 1 _ _ (λ e. leaf_back _ _ (λ l b. (ap (λ (n : ℕ). number 1 n ++ l) e, tt, b)))
-        (kind_back _ n 2 _ _ (λ e. then-back (number_laws 8) _ _ (λ m k. leaf_back _ _ (λ l b. (ap (λ (n : ℕ). number 1 n ++ (number 8 m ++ l)) e, k, b)))) (none_back _))))
+        (kind_back _ n 2 _ _ (λ e. then_back (number_laws 8) _ _ (λ m k. leaf_back _ _ (λ l b. (ap (λ (n : ℕ). number 1 n ++ (number 8 m ++ l)) e, k, b)))) (none_back _))))
 
 -- a name and two numbers, of which something is made
 three_laws : {A : Type 0} (make : List ℕ → ℕ → ℕ → A) (key : A → List ℕ) (one two : A → ℕ) → ((x : A) → make (key x) (one x) (two x) ≡ x) →
@@ -238,9 +238,9 @@ three_laws {A} make key one two eta beta = record { forth = forth; back = λ l a
     forth : (x : A) (l : List ℕ) → Ok x → read (write x ++ l) ≡ Some (took x l)
     forth x l ok =
         ap read (append_assoc (name (key x)) (number 8 (one x) ++ (number 8 (two x) ++ [])) l)
-        ∙ then-forth (counted_laws 1) (key x) (number 8 (one x) ++ (number 8 (two x) ++ l)) _ _ ok.0
-        (then-forth (number_laws 8) (one x) (number 8 (two x) ++ l) _ _ ok.1
-        (then-forth (number_laws 8) (two x) l _ _ ok.2 (ap (λ (y : A). Some (took y l)) (eta x))))
+        ∙ then_forth (counted_laws 1) (key x) (number 8 (one x) ++ (number 8 (two x) ++ l)) _ _ ok.0
+        (then_forth (number_laws 8) (one x) (number 8 (two x) ++ l) _ _ ok.1
+        (then_forth (number_laws 8) (two x) l _ _ ok.2 (ap (λ (y : A). Some (took y l)) (eta x))))
 
     made : (k : List ℕ) (m n : ℕ) (l : List ℕ) → CountedFits 1 k → NumberFits 8 m → NumberFits 8 n → Bytes l → Field write Ok (took (make k m n) l) (name k ++ (number 8 m ++ (number 8 n ++ l)))
     made k m n l hk hm hn b =
@@ -248,13 +248,13 @@ three_laws {A} make key one two eta beta = record { forth = forth; back = λ l a
         rw (e.0, e.1, e.2) (sym (append_assoc (name k) (number 8 m ++ (number 8 n ++ [])) l), (hk, hm, hn), b)
 
     back : Back (Field write Ok) (λ l. l) read
-    back = then-back (counted_laws 1) (λ l. l) _ (λ k hk. then-back (number_laws 8) _ _ (λ m hm. then-back (number_laws 8) _ _ (λ n hn. leaf_back _ _ (λ l b. made k m n l hk hm hn b))))
+    back = then_back (counted_laws 1) (λ l. l) _ (λ k hk. then_back (number_laws 8) _ _ (λ m hm. then_back (number_laws 8) _ _ (λ n hn. leaf_back _ _ (λ l b. made k m n l hk hm hn b))))
 
 pub rule_laws : Laws rule rule_in RuleFits
 rule_laws = three_laws (λ k m n. record { prefix = k; lasts = m; old_lasts = n }) (λ x. x.prefix) (λ x. x.lasts) (λ x. x.old_lasts) (λ x. refl) (λ k m n. (refl, refl, refl))
 
-pub entry-laws : Laws entry entry_in ShownFits
-entry-laws = three_laws (λ k m n. record { key = k; num = m; size = n }) (λ x. x.key) (λ x. x.num) (λ x. x.size) (λ x. refl) (λ k m n. (refl, refl, refl))
+pub entry_laws : Laws entry entry_in ShownFits
+entry_laws = three_laws (λ k m n. record { key = k; num = m; size = n }) (λ x. x.key) (λ x. x.num) (λ x. x.size) (λ x. refl) (λ k m n. (refl, refl, refl))
 
 -- SEVERAL OF A KIND
 
@@ -262,7 +262,7 @@ many_forth : {A : Type 0} {write : A → List ℕ} {read : List ℕ → Option (
 unfolding many many_in
 many_forth laws [] l ok = refl
 many_forth {write = write} {read} laws (x ∷ xs) l ok =
-    rw append_assoc (then-forth laws x (many write xs ++ l) _ _ ok.0 (ap (λ o. o then (λ xs l. Some (took (x ∷ xs) l))) (many_forth laws xs l ok.1)))
+    rw append_assoc (then_forth laws x (many write xs ++ l) _ _ ok.0 (ap (λ o. o then (λ xs l. Some (took (x ∷ xs) l))) (many_forth laws xs l ok.1)))
 
 many_back : {A : Type 0} {write : A → List ℕ} {read : List ℕ → Option (Took A)} {Ok : A → Type 0} → Laws write read Ok → (n : ℕ) (l : List ℕ) (xs : List A) (rest : List ℕ) → Bytes l → many_in read n l ≡ Some (took xs rest) →
     (l ≡ many write xs ++ rest) × ((length xs ≡ n) × Each Ok xs) × Bytes rest

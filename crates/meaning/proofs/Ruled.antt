@@ -200,11 +200,11 @@ unfolding find
 room_alone_lem s n k r q e = rw (e, (found (is_room n) s.rooms r q e).passes) refl
 
 -- what stands under a key: of the room of that name, if there is one
-in-found : (s : State) (n k : Name) (r : Room) (q : List Room) → find (is_room n) s.rooms ≡ r ∷ q → versions_in n k s ≡ versions_of (find (is_object k) r.objects)
-in-found s n k r q e = rw e refl
+in_found : (s : State) (n k : Name) (r : Room) (q : List Room) → find (is_room n) s.rooms ≡ r ∷ q → versions_in n k s ≡ versions_of (find (is_object k) r.objects)
+in_found s n k r q e = rw e refl
 
-in-none : (s : State) (n k : Name) → find (is_room n) s.rooms ≡ [] → versions_in n k s ≡ []
-in-none s n k e = rw e refl
+in_none : (s : State) (n k : Name) → find (is_room n) s.rooms ≡ [] → versions_in n k s ≡ []
+in_none s n k e = rw e refl
 
 room_told : (now : ℕ) (s : State) (n : Name) (rs : List Room) → find (is_room n) s.rooms ≡ rs → find (is_room n) (ticked now s).rooms ≡ map (aged_room now) rs
 room_told now s n rs e = find_mapped (is_room n) (aged_room now) (λ r. refl) s.rooms ∙ ap (map (aged_room now)) e
@@ -213,16 +213,16 @@ room_told now s n rs e = find_mapped (is_room n) (aged_room now) (λ r. refl) s.
 alone_told : (now : ℕ) (s : State) (n k : Name) (rs : List Room) → find (is_room n) s.rooms ≡ rs → ((r : Room) → Memᴰ r s.rooms → Pairs Before r.objects) →
     versions_in n k (ticked now s) ≡ versions_in n k (ticked now (alone n k s))
 unfolding find
-alone_told now s n k [] e p = in-none (ticked now s) n k (room_told now s n [] e) ∙ sym (in-none (ticked now (alone n k s)) n k (room_told now (alone n k s) n [] (rw e refl)))
+alone_told now s n k [] e p = in_none (ticked now s) n k (room_told now s n [] e) ∙ sym (in_none (ticked now (alone n k s)) n k (room_told now (alone n k s) n [] (rw e refl)))
 alone_told now s n k (r ∷ q) e p =
-    in-found (ticked now s) n k (aged_room now r) (map (aged_room now) q) (room_told now s n (r ∷ q) e)
+    in_found (ticked now s) n k (aged_room now r) (map (aged_room now) q) (room_told now s n (r ∷ q) e)
     ∙ aged_alone now r k (p r (found (is_room n) s.rooms r q e).there)
-    ∙ sym (in-found (ticked now (alone n k s)) n k (aged_room now (room_alone k r)) [] (room_told now (alone n k s) n (room_alone k r ∷ []) (room_alone_lem s n k r q e)))
+    ∙ sym (in_found (ticked now (alone n k s)) n k (aged_room now (room_alone k r)) [] (room_told now (alone n k s) n (room_alone k r ∷ []) (room_alone_lem s n k r q e)))
 
 alone_untold : (s : State) (n k : Name) (rs : List Room) → find (is_room n) s.rooms ≡ rs → versions_in n k s ≡ versions_in n k (alone n k s)
 unfolding find
-alone_untold s n k [] e = in-none s n k e ∙ sym (in-none (alone n k s) n k (rw e refl))
-alone_untold s n k (r ∷ q) e = in-found s n k r q e ∙ ap versions_of (sym (find_again k r.objects)) ∙ sym (in-found (alone n k s) n k (room_alone k r) [] (room_alone_lem s n k r q e))
+alone_untold s n k [] e = in_none s n k e ∙ sym (in_none (alone n k s) n k (rw e refl))
+alone_untold s n k (r ∷ q) e = in_found s n k r q e ∙ ap versions_of (sym (find_again k r.objects)) ∙ sym (in_found (alone n k s) n k (room_alone k r) [] (room_alone_lem s n k r q e))
 
 -- as keys rise in each room, rules do to each thing what they would do to it alone
 each_alone : (s : State) (t : ℕ) (n k : Name) → ((r : Room) → Memᴰ r s.rooms → Pairs Before r.objects) →

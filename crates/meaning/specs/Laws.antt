@@ -87,6 +87,10 @@ Stays =
 abbrev pub HeldStays : Type 0
 HeldStays = (s t : State) → Run blank s → Run s t → (n k : Name) (v : Version) → Memᴰ v (versions_in n k s) → T (is_held t.now v) → StillIn v (versions_in n k t)
 
+-- .. that is, as long as the time of the house is below its hold
+abbrev pub HeldUntil : Type 0
+HeldUntil = (s t : State) → Run blank s → Run s t → (n k : Name) (v : Version) → Memᴰ v (versions_in n k s) → t.now < v.held → StillIn v (versions_in n k t)
+
 -- .. and not for longer: its number is refused as held only before its time
 abbrev pub HoldEnds : Type 0
 HoldEnds = (s : State) → Run blank s → (n k : Name) (v : Version) → Memᴰ v (versions_in n k s) → 1 ≤ v.num → (does (Remove n k v.num) s).reply ≡ No 6 → s.now < v.held

@@ -2,7 +2,7 @@
 #![tactic(auto)]
 
 ghost use Rattle.meaning.specs.Examples.{ExamplesPlay};
-ghost use Rattle.meaning.specs.Laws.{NumbersTell, Stays, HeldStays, HoldEnds, ListExact, NumbersRise, RefusalsChangeNothing, WeightGrows, FullOnly, RulesAlone, SameTimeAgain, StaysInBounds};
+ghost use Rattle.meaning.specs.Laws.{NumbersTell, Stays, HeldStays, HeldUntil, HoldEnds, ListExact, NumbersRise, RefusalsChangeNothing, WeightGrows, FullOnly, RulesAlone, SameTimeAgain, StaysInBounds};
 
 // The worked examples are answered as they say.
 pub fn examples_play()
@@ -22,6 +22,11 @@ pub fn what_is_put_stays()
 // What is held stays through any run, until its time.
 pub fn what_is_held_stays()
     ensures { HeldStays }
+{}
+
+// That is, as long as the time of the house is below its hold.
+pub fn held_until()
+    ensures { HeldUntil }
 {}
 
 // And not for longer: its number is refused as held only before its time.

@@ -17,7 +17,7 @@ use Rattle.root.specs.Root as root
 use Rattle.labels.specs.Times.{Time, timed}
 use Rattle.labels.proofs.Lawful.{labels_stand}
 use Rattle.steps.proofs.Mirror.{code_keeps, code_within}
-use Rattle.recorder.specs.Recording.{call_for, reply_as, spelling, recorded, recorder_same, RecorderStands}
+use Rattle.recorder.specs.Recording.{call_for, reply_as, spelling, recorded, RecorderSame, RecorderStands}
 use Rattle.recorder.specs.Tied.{recorder_tied}
 
 -- a time stands for the payload that has it
@@ -80,4 +80,4 @@ recorded_within = layers_stay_within (root.Call Time) (root.Reply Time) Call Rep
 
 pub recorder_stands : RecorderStands
 recorder_stands n h =
-    (code_keeps {S = recorder_same} (λ size lo hi. recorder_tied size) register recorded_keeps n h, code_within {S = recorder_same} (λ size lo hi. recorder_tied size) recorded_within n h)
+    (code_keeps {S = RecorderSame} (λ size lo hi. recorder_tied size) register recorded_keeps n h, code_within {S = RecorderSame} (λ size lo hi. recorder_tied size) recorded_within n h)

@@ -145,8 +145,8 @@ abbrev pub recorded : Machine Call Reply
 recorded = over (root.machine timed) spelling
 
 -- the code has the record that the machine has; what is lent is all there
-abbrev pub recorder_same : ℕ → Held Recorder → recorded.Mem → Type 0
-recorder_same size h m = (h.me.current ≡ record_as m.below) × Ample h.lent
+abbrev pub RecorderSame : ℕ → Held Recorder → recorded.Mem → Type 0
+RecorderSame size h m = (h.me.current ≡ record_as m.below) × Ample h.lent
 
 -- how many requests are enough: 18 of the drives, and three steps that ask for nothing
 abbrev pub budget : ℕ

@@ -32,7 +32,7 @@ use Rattle.recorder.specs.declared.Task.{Task}
 use Rattle.recorder.specs.declared.Task.TheVariants.{Opens, Sets, Mends}
 use Rattle.recorder.specs.declared.Phase.TheVariants.{Begun, Reading, Writing, Syncing, Over}
 use Rattle.recorder.specs.declared.Recorder.{Recorder}
-use Rattle.recorder.specs.Recording.{moved, decided, lowest_in, gets_at_first, goes, starts_on, payload_in, said_by, reply_as, recorder_code, recorded, recorder_same}
+use Rattle.recorder.specs.Recording.{moved, decided, lowest_in, gets_at_first, goes, starts_on, payload_in, said_by, reply_as, recorder_code, recorded, RecorderSame}
 
 -- WHAT A SECTOR SHOWS IS WHAT THE MACHINE SEES IN IT
 
@@ -140,7 +140,7 @@ reads_all g k r lent next =
     reads (λ b₅. reads (λ b₄. reads (λ b₃. reads (λ b₂. reads (λ b₁. reads (λ b₀. next (record { b₀ = b₀; b₁ = b₁; b₂ = b₂; b₃ = b₃; b₄ = b₄; b₅ = b₅ })))))))
 
 abbrev Same : ℕ → Held Recorder → recorded.Mem → Type 0
-Same = recorder_same
+Same = RecorderSame
 
 -- OPENING: what is committed is settled, or that nothing is
 
@@ -239,5 +239,5 @@ module _ (size : ℕ) (h : Held Recorder) (m : recorded.Mem) (same : Same size h
   mends : Goes f AfterMending 21 (first recorder_code (recorder_code.mending h.me) h.lent) (recorded.mends m)
   mends = (reads_all W (settle timed (root.untrusted timed) m.below (record { whole = true; mem = m.below })) (recorder_code.mending h.me) h.lent (λ x. again (mends_to x))).go
 
-pub recorder_tied : (size : ℕ) → Tied recorder_code 21 size recorded (recorder_same size)
+pub recorder_tied : (size : ℕ) → Tied recorder_code 21 size recorded (RecorderSame size)
 recorder_tied size = record { opens = (opens_all size).go; does = λ c h m s. calls size h m s c; mends = mends size }

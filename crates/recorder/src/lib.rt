@@ -4,7 +4,7 @@
 ghost use Rattle.std.specs.Prelude.{◌≡◌, false, map, slice_index_or};
 ghost use Rattle.labels.specs.Times.{trusts};
 ghost use Rattle.steps.specs.declared.Lent.{Lent};
-ghost use Rattle.recorder.specs.Recording.{lowest_in, gets_at_first, noted, decided, goes, read_all, read_on, write_on, sync_on, payload_in, fresh, budget, recorder_code, recorded, recorder_same, RecorderStands};
+ghost use Rattle.recorder.specs.Recording.{lowest_in, gets_at_first, noted, decided, goes, read_all, read_on, write_on, sync_on, payload_in, fresh, budget, recorder_code, recorded, RecorderSame, RecorderStands};
 ghost use Rattle.recorder.specs.Tied.{recorder_tied};
 
 use labels::{Label, Record, is_trusted, read_label, write_label};
@@ -237,7 +237,7 @@ impl Stepper for Recorder {
 
     ghost most = { budget };
 
-    ghost same = { recorder_same };
+    ghost same = { RecorderSame };
 
     ghost tied = { λ size lo hi. recorder_tied size };
 

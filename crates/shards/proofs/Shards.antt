@@ -62,13 +62,13 @@ pieces_good b k h =
 -- A ROW IS ITS STRIPES, ONE AFTER THE OTHER
 
 -- m bytes from s on, and n after them
-then-more : (b : List ℕ) (s t m n : ℕ) → s + m ≡ t → take (m + n) (drop s b) ≡ take m (drop s b) ++ take n (drop t b)
-then-more b s t m n e = take-add m n (drop s b) ∙ ap (λ l. take m (drop s b) ++ take n l) (drop-drop m s b ∙ ap (λ i. drop i b) e)
+then_more : (b : List ℕ) (s t m n : ℕ) → s + m ≡ t → take (m + n) (drop s b) ≡ take m (drop s b) ++ take n (drop t b)
+then_more b s t m n e = take-add m n (drop s b) ∙ ap (λ l. take m (drop s b) ++ take n l) (drop-drop m s b ∙ ap (λ i. drop i b) e)
 
 four_parts : (b : List ℕ) (s t u v m : ℕ) → s + m ≡ t → t + m ≡ u → u + m ≡ v → in_one (take m (drop s b) ∷ take m (drop t b) ∷ take m (drop u b) ∷ take m (drop v b) ∷ []) ≡ take (m + (m + (m + m))) (drop s b)
 unfolding in_one
 four_parts b s t u v m e f g =
-    sym (then-more b s t m (m + (m + m)) e ∙ ap (λ l. take m (drop s b) ++ l) (then-more b t u m (m + m) f ∙ ap (λ l. take m (drop t b) ++ l) (then-more b u v m m g ∙ ap (λ l. take m (drop u b) ++ l) (sym (append-nil (take m (drop v b)))))))
+    sym (then_more b s t m (m + (m + m)) e ∙ ap (λ l. take m (drop s b) ++ l) (then_more b t u m (m + m) f ∙ ap (λ l. take m (drop t b) ++ l) (then_more b u v m m g ∙ ap (λ l. take m (drop u b) ++ l) (sym (append-nil (take m (drop v b)))))))
 
 stripe_is : (b : List ℕ) (k : ℕ) → in_one (data_pieces b k) ≡ take 2048 (drop (2048 * k) b)
 unfolding data_pieces

@@ -9,12 +9,12 @@ use Rattle.steps.specs.Ties.{Goes}
 use Rattle.steps.specs.declared.Lent.{Lent}
 use Rattle.steps.specs.declared.Ask.TheVariants.{Read, Write, Sync, Again}
 
-pub then-then : {A B C : Type 0} (p : Io A) (f : A → Io B) (g : B → Io C) → then' (then' p f) g ≡ then' p (λ a. then' (f a) g)
+pub then_then : {A B C : Type 0} (p : Io A) (f : A → Io B) (g : B → Io C) → then' (then' p f) g ≡ then' p (λ a. then' (f a) g)
 unfolding then'
-then-then (answer a) f g = refl
-then-then (read i s k) f g = ap (read i s) (fun_ext (λ b. then-then (k b) f g))
-then-then (write i s b p) f g = ap (write i s b) (then-then p f g)
-then-then (sync i p) f g = ap (sync i) (then-then p f g)
+then_then (answer a) f g = refl
+then_then (read i s k) f g = ap (read i s) (fun_ext (λ b. then_then (k b) f g))
+then_then (write i s b p) f g = ap (write i s b) (then_then p f g)
+then_then (sync i p) f g = ap (sync i) (then_then p f g)
 
 -- Does f S n x p g: from the step x on, p is done, and then what g says of p's answer. With p and g apart, `then'` can stay shut.
 pub record Does {M A B : Type 0} (f : Held M → List ℕ → Stepped M) (S : Held M → B → Type 0) (n : ℕ) (x : Stepped M) (p : Io A) (g : A → Io B) : Type 0 where
@@ -48,7 +48,7 @@ module _ {M B : Type 0} {f : Held M → List ℕ → Stepped M} {S : Held M → 
     answers d = record { go = d }
 
     pub follows : {D : Type 0} {n : ℕ} {x : Stepped M} {p : Io D} (q : D → Io A) → Does f S n x p (λ b. then' (q b) g) → Does f S n x (then' p q) g
-    follows {n = n} {x = x} {p = p} q d = record { go = subst⁻¹ (Goes f S n x) (then-then p q g) d.go }
+    follows {n = n} {x = x} {p = p} q d = record { go = subst⁻¹ (Goes f S n x) (then_then p q g) d.go }
 
     pub reads : {n : ℕ} {me : M} {lent : Lent} {i s : ℕ} {k : List ℕ → Io A} → ((got : List ℕ) → Does f S n (f (record { me = me; lent = lent }) got) (k got) g) →
         Does f S (suc n) (record { me = me; lent = lent; ask = Read i s }) (read i s k) g

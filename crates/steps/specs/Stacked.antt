@@ -9,13 +9,13 @@ use Rattle.drives.specs.Machines.{Machine}
 use Rattle.drives.specs.Layers.{Plan, Layer, through, over}
 use Rattle.steps.specs.Steps.{Held, Stepped, Stepping}
 use Rattle.steps.specs.Ties.{Goes, Tied}
-use Rattle.steps.specs.Stacks.{Asked, Planning, Plans, Planned, turn, on_done, lifted, stack_of, both, enough}
+use Rattle.steps.specs.Stacks.{Asked, Planning, Plans, Planned, turn, on_done, lifted, stack_of, Both, enough}
 use Rattle.steps.specs.declared.Lent.{Lent}
 use Rattle.steps.specs.declared.Ask.TheVariants.{Done}
 use Rattle.steps.specs.declared.Doing.{Doing}
 use Rattle.steps.specs.declared.Doing.TheVariants.{Opens, Waits, Mends}
 use Rattle.steps.specs.declared.Stack.{Stack}
-use Rattle.steps.specs.Does.{then-then, later}
+use Rattle.steps.specs.Does.{then_then, later}
 
 module _ {U L C R C' R' : Type 0} (p : Planning C R C' R' U) (s : Stepping C R L) where
   abbrev steps : Held (Stack U L) → List ℕ → Stepped (Stack U L)
@@ -47,7 +47,7 @@ module _ {U L C R C' R' : Type 0} (p : Planning C R C' R' U) (s : Stepping C R L
     above (Plans.calls {n = k} {me = u} {c = c} {k = q} x) l lent m st =
         let i = suc-mul k (n + 1) in
         later {m = suc (n + (k * (n + 1) + 1))}
-        (Goes.again (subst⁻¹ (Goes steps Z _ _) (then-then (e.does c m) (λ z. through e (q z.reply) z.mem) g)
+        (Goes.again (subst⁻¹ (Goes steps Z _ _) (then_then (e.does c m) (λ z. through e (q z.reply) z.mem) g)
         (below (k * (n + 1) + 1) Waits u (λ l lent got. refl) _ (t.does c _ m st) (λ h z r.
         subst (λ w. Goes steps Z (k * (n + 1) + 1) (on_done p s Waits u h.me h.lent) (then' (through e (q w) z.mem) g)) r.0
         (above (x (s.says h.me)) h.me h.lent z.mem r.1)))))
@@ -55,7 +55,7 @@ module _ {U L C R C' R' : Type 0} (p : Planning C R C' R' U) (s : Stepping C R L
 
 -- THE STACK: the code of both is the readable layer over the readable machine
 pub stacked : {U L C R C' R' : Type 0} {p : Planning C R C' R' U} {s : Stepping C R L} {k n size : ℕ} {l : Layer C R C' R'} {e : Machine C R} {T : U → l.Mem → Type 0} {S : Held L → e.Mem → Type 0} →
-    Planned p k size l T → Tied s n size e S → Tied (stack_of p s) (enough k n) size (over e l) (both T S)
+    Planned p k size l T → Tied s n size e S → Tied (stack_of p s) (enough k n) size (over e l) (Both T S)
 stacked {p = p} {s = s} {k = k} {n = n} {size = size} b t =
     record {
       opens =

@@ -86,8 +86,8 @@ abbrev pub PlannedAll : {C R C' R' U : Type 0} (p : Planning C R C' R' U) (n : �
 PlannedAll p n l T = (size : ℕ) → smallest ≤ size → size ≤ largest → Planned p n size l (T size)
 
 -- what the state of a stack stands for
-abbrev pub both : {U L A B : Type 0} → (U → A → Type 0) → (Held L → B → Type 0) → Held (Stack U L) → record { below : B; above : A } → Type 0
-both T S h m = S (record { me = h.me.lower; lent = h.lent }) m.below × T h.me.upper m.above
+abbrev pub Both : {U L A B : Type 0} → (U → A → Type 0) → (Held L → B → Type 0) → Held (Stack U L) → record { below : B; above : A } → Type 0
+Both T S h m = S (record { me = h.me.lower; lent = h.lent }) m.below × T h.me.upper m.above
 
 -- how many requests are enough for both, where n are for each call below and k turns for the layer
 abbrev pub enough : ℕ → ℕ → ℕ

@@ -3,7 +3,7 @@ ghost use Rattle.std.specs.Prelude.{◌≡◌, ℕ, Option};
 ghost use Rattle.drives.specs.Machines.{Machine};
 ghost use Rattle.drives.specs.Layers.{Layer, over};
 ghost use Rattle.steps.specs.Steps.{Held, Stepped, Stepping};
-ghost use Rattle.steps.specs.Stacks.{Asked, Planning, PlannedAll, stack_of, both, enough};
+ghost use Rattle.steps.specs.Stacks.{Asked, Planning, PlannedAll, stack_of, Both, enough};
 ghost use Rattle.steps.specs.Stacked.{stacked};
 
 use super::machines::Stepper;
@@ -75,7 +75,7 @@ impl<U: Planner<Call = L::Call, Reply = L::Reply>, L: Stepper> Stepper for Stack
 
     ghost most = { enough U.Planner.most L.Stepper.most };
 
-    ghost same = { λ size. both (U.Planner.same size) (L.Stepper.same size) };
+    ghost same = { λ size. Both (U.Planner.same size) (L.Stepper.same size) };
 
     ghost tied = { λ size lo hi. stacked (U.Planner.planned size lo hi) (L.Stepper.tied size lo hi) };
 

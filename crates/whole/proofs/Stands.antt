@@ -7,7 +7,7 @@ use Rattle.drives.specs.Machines.{Machine, Keeps, Within}
 use Rattle.drives.specs.Layers.{over}
 use Rattle.drives.proofs.Layers.{layers_compose}
 use Rattle.drives.proofs.Within.{layers_stay_within}
-use Rattle.steps.specs.Stacks.{stack_of, both, enough}
+use Rattle.steps.specs.Stacks.{stack_of, Both, enough}
 use Rattle.steps.specs.Steps.{Held}
 use Rattle.steps.specs.Ties.{Tied}
 use Rattle.steps.specs.declared.Stack.{Stack}
@@ -17,12 +17,12 @@ use Rattle.register.specs.declared.Call.{Call}
 use Rattle.register.specs.declared.Reply.{Reply}
 use Rattle.register.specs.Register.{register}
 use Rattle.clock.specs.declared.Clock.{Clock}
-use Rattle.clock.specs.Clock.{clock_same}
+use Rattle.clock.specs.Clock.{ClockSame}
 use Rattle.clock.specs.Spelled.{clock, line_code}
 use Rattle.clock.proofs.Planned.{lines_planned}
 use Rattle.clock.proofs.Standing.{clock_keeps}
 use Rattle.recorder.specs.declared.Recorder.{Recorder}
-use Rattle.recorder.specs.Recording.{recorder_code, recorded, recorder_same}
+use Rattle.recorder.specs.Recording.{recorder_code, recorded, RecorderSame}
 use Rattle.recorder.specs.Tied.{recorder_tied}
 use Rattle.recorder.proofs.Stands.{recorded_keeps, recorded_within}
 use Rattle.lines.specs.Order.{only_time}
@@ -34,10 +34,10 @@ module _ (longest : ℕ) where
   abbrev readable : Machine (List ℕ) (List ℕ)
   readable = over recorded (clock longest)
 
-  abbrev same : ℕ → Held (Stack Clock Recorder) → readable.Mem → Type 0
-  same size = both (clock_same size) (recorder_same size)
+  abbrev Same : ℕ → Held (Stack Clock Recorder) → readable.Mem → Type 0
+  Same size = Both (ClockSame size) (RecorderSame size)
 
-  tied : (size : ℕ) → Tied (stack_of (line_code longest) recorder_code) (enough 2 21) size readable (same size)
+  tied : (size : ℕ) → Tied (stack_of (line_code longest) recorder_code) (enough 2 21) size readable (Same size)
   tied size = stacked (lines_planned longest size) (recorder_tied size)
 
   keeps : Keeps (house only_time longest) readable
@@ -48,6 +48,6 @@ module _ (longest : ℕ) where
 
 pub time_stands : TimeStands
 time_stands longest = (
-  code_keeps {S = same longest} (λ size lo hi. tied longest size) (house only_time longest) (keeps longest) 1000 (omega arith),
-  code_within {S = same longest} (λ size lo hi. tied longest size) (within longest) 1000 (omega arith),
+  code_keeps {S = Same longest} (λ size lo hi. tied longest size) (house only_time longest) (keeps longest) 1000 (omega arith),
+  code_within {S = Same longest} (λ size lo hi. tied longest size) (within longest) 1000 (omega arith),
 )
