@@ -17,7 +17,9 @@ program() {
         say "proving and building $1 (minutes the first time)" >&2
         (cd "crates/$1" && rt run </dev/null) >&2 || { printf '0 passed, 1 failed\n'; exit 1; }
     fi
-    mkdir -p target/bin && cp -p "$built" target/bin/ && printf '%s\n' "$PWD/target/bin/$1"
+    # one that runs can't be written over, but it can be replaced
+    cmp -s "$built" "target/bin/$1" || { mkdir -p target/bin && rm -f "target/bin/$1" && cp -p "$built" target/bin/; } || exit 1
+    printf '%s\n' "$PWD/target/bin/$1"
 }
 
 passed=0 failed=0
@@ -32,9 +34,9 @@ same() {
     fi
 }
 
-# add LINE: adds what a line 'N passed, M failed' says; one that says nothing counts as a failure
+# add LINE: adds what a line 'N passed, M failed' says; one that says nothing, or that nothing was done, counts as a failure
 add() {
-    if [[ $1 =~ ^([0-9]+)\ passed,\ ([0-9]+)\ failed$ ]]; then
+    if [[ $1 =~ ^([0-9]+)\ passed,\ ([0-9]+)\ failed$ ]] && [ $((BASH_REMATCH[1] + BASH_REMATCH[2])) -gt 0 ]; then
         passed=$((passed + BASH_REMATCH[1])) failed=$((failed + BASH_REMATCH[2]))
     else
         failed=$((failed + 1))
@@ -43,9 +45,12 @@ add() {
 
 # run_part LOG COMMAND ..: runs it, shows what it prints, which stays in LOG, and adds its last line
 run_part() {
-    local log=$1; shift
+    local log=$1 before=$failed status; shift
     "$@" | tee "$log"
+    status=${PIPESTATUS[0]}
     add "$(tail -n 1 "$log")"
+    # one that failed and says nothing of it
+    if [ "$status" -ne 0 ] && [ "$failed" -eq "$before" ]; then failed=$((failed + 1)); fi
 }
 
 # The last line of a test, and its exit status.

@@ -315,5 +315,11 @@ refuted law = go (law (after cs) (after (Tick 21 ∷ cs)) (run cs) (onward (Tick
     go i = let e = ap (λ (v : Version). v.num) (Memᴰ.eq_of_singleton i.there) in omega (arith, e, i.num)
 P
 
+if [ "$wanted" = "  " ]; then
+    for edit in crates/meaning/must-fail/*.edit; do
+        edit=$(basename "$edit" .edit)
+        same "an entry for $edit" yes "$([ -d "$work/$edit" ] && echo yes)"
+    done
+fi
 printf '%s passed, %s failed\n' "$passed" "$failed"
-[ "$failed" -eq 0 ]
+[ "$failed" -eq 0 ] && [ "$passed" -gt 0 ]
