@@ -163,7 +163,8 @@ refuted law = go (law (after cs) (put a 8) (run cs) r a (one 1 7 0) (7 ∷ []) (
     go (inr (by_newer bs x e, _)) = true≢false e
 P
 
-refuted list_cut_short ListExact <<P
+for edit in list_cut_short list_leaves_out_first; do
+    refuted $edit ListExact <<P
 abbrev cs : List Call
 cs = put a 7 ∷ made true
 
@@ -177,21 +178,7 @@ pub refuted : Refuted
 $U
 refuted law = Memᴰ.not-nil ((law (after cs) (run cs) r [] [] 10 room [] refl refl).none_left_out _ (shown thing (one 1 7 0) [] (Memᴰ.head refl) refl (7 ∷ []) refl tt tt) (omega arith))
 P
-
-refuted list_leaves_out_first ListExact <<P
-abbrev cs : List Call
-cs = put a 7 ∷ made true
-
-abbrev thing : Object
-thing = record { key = a; versions = one 1 7 0 ∷ [] }
-
-abbrev room : Room
-room = record { name = r; keeps = true; rules = []; objects = thing ∷ []; uploads = [] }
-
-pub refuted : Refuted
-$U
-refuted law = Memᴰ.not-nil ((law (after cs) (run cs) r [] [] 10 room [] refl refl).none_left_out _ (shown thing (one 1 7 0) [] (Memᴰ.head refl) refl (7 ∷ []) refl tt tt) (omega arith))
-P
+done
 
 refuted mark_weighs WeightGrows <<P
 abbrev cs : List Call
