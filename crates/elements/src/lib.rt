@@ -7,10 +7,12 @@ ghost use Rattle.elements.specs.Accepted.{all_of};
 ghost use Rattle.field.specs.Stripe.{parity_p, parity_q};
 
 mod bytes;
+mod four;
 mod lanes;
 mod parity;
 mod sums;
 
+pub use four::{Four, UnequalLengths};
 use lanes::WIDTH;
 use parity::{encode_bytes, encode_vectors};
 pub use sums::blend;
