@@ -8,10 +8,10 @@ use Rattle.elements.proofs.parity.encode_bytes.Goals as goal
 pub loop-i-preserved : goal.loop-i-preserved
 loop-i-preserved c =
     let i = c.loop-i.i in
-    let a = c.args.a.now in
-    let b = c.args.b.now in
-    let c' = c.args.c.now in
-    let d = c.args.d.now in
+    let a = c.args.four.now.w.now in
+    let b = c.args.four.now.x.now in
+    let c' = c.args.four.now.y.now in
+    let d = c.args.four.now.z.now in
     let s = p_is (get_or a i 0) (get_or b i 0) (get_or c' i 0) (get_or d i 0) (search rules) (search rules) (search rules) (search rules) in
     let lp : i < length c.loop-i.p = omega arith in
     let lq : i < length c.loop-i.q = omega arith in
@@ -22,6 +22,6 @@ loop-i-preserved c =
 
 pub returns : goal.returns
 returns c = record {
-  p = whole (dot (generator 4)) c.args.a.now c.args.b.now c.args.c.now c.args.d.now c.loop-i.i c.loop-i.p (omega arith) (omega arith) c.loop-i.invariant.0;
-  q = whole (dot (generator 5)) c.args.a.now c.args.b.now c.args.c.now c.args.d.now c.loop-i.i c.loop-i.q (omega arith) (omega arith) c.loop-i.invariant.1;
+  p = whole (dot (generator 4)) c.args.four.now.w.now c.args.four.now.x.now c.args.four.now.y.now c.args.four.now.z.now c.loop-i.i c.loop-i.p (omega arith) (omega arith) c.loop-i.invariant.0;
+  q = whole (dot (generator 5)) c.args.four.now.w.now c.args.four.now.x.now c.args.four.now.y.now c.args.four.now.z.now c.loop-i.i c.loop-i.q (omega arith) (omega arith) c.loop-i.invariant.1;
 }

@@ -3,4 +3,4 @@ use Rattle.field.specs.Stripe.{parity_p, parity_q}
 use Rattle.elements.proofs.parity.encode_bytes.Given as goal
 
 abbrev pub invariant-loop-i : goal.invariant-loop-i
-invariant-loop-i l = (take l.i l.p ≡ take l.i (parity_p l.a l.b l.c l.d)) × (take l.i l.q ≡ take l.i (parity_q l.a l.b l.c l.d))
+invariant-loop-i l = (take l.i l.p ≡ take l.i (parity_p l.w l.x l.y l.z)) × (take l.i l.q ≡ take l.i (parity_q l.w l.x l.y l.z))

@@ -4,5 +4,5 @@ use Rattle.elements.proofs.parity.encode_vectors.Given as goal
 
 abbrev pub invariant-loop-i : goal.invariant-loop-i
 invariant-loop-i l =
-    (take (l.i * 32) l.p ≡ take (l.i * 32) (parity_p l.a l.b l.c l.d))
-    × (take (l.i * 32) l.q ≡ take (l.i * 32) (parity_q l.a l.b l.c l.d))
+    (take (l.i * 32) l.p ≡ take (l.i * 32) (parity_p l.w l.x l.y l.z))
+    × (take (l.i * 32) l.q ≡ take (l.i * 32) (parity_q l.w l.x l.y l.z))

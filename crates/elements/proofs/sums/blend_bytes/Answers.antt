@@ -7,10 +7,10 @@ pub loop-i-preserved : goal.loop-i-preserved
 unfolding dot
 loop-i-preserved g c =
     let i = c.loop-i.i in
-    let w = c.args.w.now in
-    let x = c.args.x.now in
-    let y = c.args.y.now in
-    let z = c.args.z.now in
+    let w = c.args.four.now.w.now in
+    let x = c.args.four.now.x.now in
+    let y = c.args.four.now.y.now in
+    let z = c.args.four.now.z.now in
     let ea = c.product.ensures in
     let eb = c.product-in-loop-i.ensures in
     let ec = c.product-in-loop-i-2.ensures in
@@ -21,4 +21,4 @@ loop-i-preserved g c =
 
 pub returns : goal.returns
 returns g c =
-    whole (dot (row g.row.A g.row.B g.row.C g.row.D)) c.args.w.now c.args.x.now c.args.y.now c.args.z.now c.loop-i.i c.loop-i.out (omega arith) (omega arith) c.loop-i.invariant
+    whole (dot (row g.row.A g.row.B g.row.C g.row.D)) c.args.four.now.w.now c.args.four.now.x.now c.args.four.now.y.now c.args.four.now.z.now c.loop-i.i c.loop-i.out (omega arith) (omega arith) c.loop-i.invariant
