@@ -1,5 +1,6 @@
 // Four pieces of one length.
 ghost use Rattle.std.specs.Prelude.{◌≡◌, length};
+ghost use Rattle.elements.specs.Bytes.{AreBytes};
 
 // Four pieces of one length.
 #[derive(Clone, Copy)]
@@ -9,6 +10,9 @@ pub struct Four<'a> {
     pub y: &'a [u8],
     pub z: &'a [u8],
     pub ghost same_length: { (length x.now ≡ length w.now) × ((length y.now ≡ length w.now) × (length z.now ≡ length w.now)) },
+
+    // As their types say: proofs read it here.
+    pub ghost bytes: { AreBytes w.now × (AreBytes x.now × (AreBytes y.now × AreBytes z.now)) },
 }
 
 // The lengths of pieces are not all the same.

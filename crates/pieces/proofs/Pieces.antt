@@ -2,26 +2,27 @@
 -- Assumes nothing.
 use Prim.Native.Nat.{ℕ, suc, ◌-◌, ◌<◌}
 use native.Mathlib.Omega.{arith}
-use mathlib.Core.Path.{◌≡◌, sym, ◌∙◌, ap, subst}
+use mathlib.Core.Path.{◌≡◌, refl, sym, ◌∙◌, ap, subst}
 use mathlib.Core.Logic.{◌≢◌}
 use mathlib.Core.List.{List, [], ◌∷◌}
-use lib.ListN.{length, get_or}
-use mir.Syntax.{w8}
-use mir.Val.{Fits}
+use lib.ListN.{length}
 use Rattle.field.specs.Field.{dot, map4}
 use Rattle.field.specs.Stripe.{encoded, decoded, four_held, rebuilt, lost_row, generator}
 use Rattle.field.proofs.Pieces.{Good}
+use Rattle.elements.specs.Bytes.{AreBytes}
+use Rattle.pieces.specs.Quorums.{held_by}
+use Rattle.pieces.specs.declared.quorum.Quorum.{Quorum}
 use Rattle.field.proofs.Rebuilt.{by_row, first_held, second_held, third_held, fourth_held, lost_row_lem, other_lost}
 
-good_bytes : (x : List ℕ) → ((k : ℕ) → Fits w8 (get_or x k 0)) → Good (length x) x
+good_bytes : (x : List ℕ) → AreBytes x → Good (length x) x
 good_bytes [] f = tt
-good_bytes (b ∷ x) f = ((f 0).fits, good_bytes x (λ k. f (suc k)))
+good_bytes (b ∷ x) f = (f 0, good_bytes x (λ k. f (suc k)))
 
-pub good : (n : ℕ) (x : List ℕ) → length x ≡ n → ((k : ℕ) → Fits w8 (get_or x k 0)) → Good n x
+good : (n : ℕ) (x : List ℕ) → length x ≡ n → AreBytes x → Good n x
 good n x e f = subst (λ m. Good m x) e (good_bytes x f)
 
 -- four places that rise, and four pieces of n bytes
-pub record Four (p q r s n : ℕ) (x y z w : List ℕ) : Type 0 where
+pub record RisingFour (p q r s n : ℕ) (x y z w : List ℕ) : Type 0 where
   pub pq : p < q
   pub qr : q < r
   pub rs : r < s
@@ -31,7 +32,22 @@ pub record Four (p q r s n : ℕ) (x y z w : List ℕ) : Type 0 where
   pub gz : Good n z
   pub gw : Good n w
 
-module _ (p q r s n : ℕ) (x y z w : List ℕ) (h : Four p q r s n x y z w) where
+pub rising_four : (h : Quorum) → RisingFour h.p h.q h.r h.s (length h.pieces.w.now) h.pieces.w.now h.pieces.x.now h.pieces.y.now h.pieces.z.now
+rising_four h =
+    let n = length h.pieces.w.now in
+    let one_length = h.pieces.same_length in
+    record {
+      pq = h.rising.0;
+      qr = h.rising.1.0;
+      rs = h.rising.1.1.0;
+      s6 = h.rising.1.1.1;
+      gx = good n h.pieces.w.now refl h.pieces.bytes.0;
+      gy = good n h.pieces.x.now one_length.0 h.pieces.bytes.1.0;
+      gz = good n h.pieces.y.now one_length.1.0 h.pieces.bytes.1.1.0;
+      gw = good n h.pieces.z.now one_length.1.1 h.pieces.bytes.1.1.1;
+    }
+
+module _ {p q r s n : ℕ} {x y z w : List ℕ} (h : RisingFour p q r s n x y z w) where
   pub is_first : (t : ℕ) → t ≡ p → x ≡ rebuilt (four_held p q r s x y z w) t
   is_first t e = sym (ap (rebuilt (four_held p q r s x y z w)) e ∙ first_held p q r s h.pq h.qr h.rs h.s6 n x y z w h.gx h.gy h.gz h.gw)
 
@@ -66,6 +82,6 @@ module _ (p q r s n : ℕ) (x y z w : List ℕ) (h : Four p q r s n x y z w) whe
     is_other_lost = other_lost i j hi hj ij n x y z w h.gx h.gy h.gz h.gw ∙ is_one_lost
 
 -- the first four pieces made anew are the data
-pub all_data : (p q r s : ℕ) (x y z w a b c d : List ℕ) → let hs = four_held p q r s x y z w in a ≡ rebuilt hs 0 → b ≡ rebuilt hs 1 → c ≡ rebuilt hs 2 → d ≡ rebuilt hs 3 → a ∷ b ∷ c ∷ d ∷ [] ≡ decoded hs
+pub all_data : (h : Quorum) {a b c d : List ℕ} → let hs = held_by h in a ≡ rebuilt hs 0 → b ≡ rebuilt hs 1 → c ≡ rebuilt hs 2 → d ≡ rebuilt hs 3 → a ∷ b ∷ c ∷ d ∷ [] ≡ decoded hs
 unfolding encoded decoded
-all_data p q r s x y z w a b c d ea eb ec ed = cc
+all_data h ea eb ec ed = cc

@@ -1,0 +1,30 @@
+// A piece that is at hand, and what is refused.
+ghost use Rattle.std.specs.Prelude.{◌≡◌};
+ghost use Rattle.pieces.specs.declared.held.Refused.TheVariants.{Lengths};
+
+use elements::UnequalLengths;
+
+// A piece that is at hand, and its place in the stripe: 0 to 3 for data, 4 for P, 5 for Q.
+#[derive(Clone, Copy)]
+pub struct Held<'a> {
+    pub place: usize,
+    pub bytes: &'a [u8],
+}
+
+#[derive(Clone, Copy, Debug, PartialEq, Eq)]
+pub enum Refused {
+    // The places of the four pieces don't rise, or one is above 5.
+    Places,
+    // The place that is wanted is above 5.
+    NoSuchPlace,
+    // Pieces are not of one length.
+    Lengths,
+}
+
+impl From<UnequalLengths> for Refused {
+    ghost from_gives = { λ _ e. e ≡ Lengths };
+
+    fn from(_e: UnequalLengths) -> Refused {
+        Refused::Lengths
+    }
+}

@@ -1,0 +1,121 @@
+// Four of the six pieces, of which any piece is made anew.
+ghost use Rattle.std.specs.Prelude.{◌<◌};
+
+use crate::held::{Held, Refused};
+use crate::losses::fill_lost;
+use elements::Four;
+
+// Four pieces of one length, at rising places: `w` of `pieces` stands at p, `x` at q, `y` at r and `z` at s.
+#[derive(Clone, Copy)]
+pub(crate) struct Quorum<'a> {
+    p: usize,
+    q: usize,
+    r: usize,
+    s: usize,
+    pieces: Four<'a>,
+    ghost rising: { (p < q) × ((q < r) × ((r < s) × (s < 6))) },
+}
+
+impl<'a> Quorum<'a> {
+    ghost use Rattle.std.specs.Prelude.{◌≡◌, ◌≢◌, ◌↔◌, ◌&&◌, [], ◌∷◌, false, length, is_ok, IfOk, IsErrOf};
+    ghost use Rattle.field.specs.Stripe.{decoded, rebuilt};
+    ghost use Rattle.pieces.specs.Hands.{held_four, one_length, rise};
+    ghost use Rattle.pieces.specs.Quorums.{held_by};
+
+    // The four pieces, if their places rise and they are of one length.
+    pub(crate) fn new(
+        w: Held<'a>,
+        x: Held<'a>,
+        y: Held<'a>,
+        z: Held<'a>,
+    ) -> Result<Quorum<'a>, Refused>
+        ensures answer { is_ok result ≡ (rise w.entry x.entry y.entry z.entry && one_length w.entry x.entry y.entry z.entry) }
+        ensures places { IsErrOf result Refused.Places ↔ (rise w.entry x.entry y.entry z.entry ≡ false) }
+        ensures no_place { result ≢ Err Refused.NoSuchPlace }
+        ensures pieces { IfOk result (λ h. held_by h ≡ held_four w.entry x.entry y.entry z.entry) }
+    {
+        let [p, q, r, s] = [w.place, x.place, y.place, z.place];
+        if p < q && q < r && r < s && s < 6 {
+            let pieces = Four::new(w.bytes, x.bytes, y.bytes, z.bytes)?;
+            return Ok(Quorum { p, q, r, s, pieces });
+        }
+        Err(Refused::Places)
+    }
+
+    // The length of each piece.
+    pub(crate) fn len(&self) -> usize
+        ensures { result ≡ length self.now.pieces.w.now }
+    {
+        self.pieces.len()
+    }
+
+    // The piece at a place.
+    pub(crate) fn piece(&self, wanted: usize, out: &mut [u8])
+        requires { (wanted < 6) × (length out.old ≡ length self.now.pieces.w.now) }
+        ensures { out.new ≡ rebuilt (held_by self.now) wanted }
+    {
+        let Four { w, x, y, z } = self.pieces;
+        if wanted == self.p {
+            out.copy_from_slice(w);
+        } else if wanted == self.q {
+            out.copy_from_slice(x);
+        } else if wanted == self.r {
+            out.copy_from_slice(y);
+        } else if wanted == self.s {
+            out.copy_from_slice(z);
+        } else {
+            // All six places add up to 15.
+            let other = 15 - self.p - self.q - self.r - self.s - wanted;
+            fill_lost(wanted, other, &self.pieces, out);
+        }
+    }
+
+    // The data where two pieces of it are lost: the second of these by its coefficients, and the first as the sum of all but Q.
+    fn two_lost(
+        &self,
+        k: &mut [u8],
+        l: &mut [u8],
+        first: usize,
+        one: &mut [u8],
+        second: usize,
+        two: &mut [u8],
+    )
+        requires k_len { (length k.old ≡ length self.now.pieces.w.now) × ((length l.old ≡ length self.now.pieces.w.now) × ((length one.old ≡ length self.now.pieces.w.now) × (length two.old ≡ length self.now.pieces.w.now))) }
+        requires both_parities { (self.now.r ≡ 4) × ((first < second) × (second < 4)) }
+        requires others_lost { (first ≢ self.now.p) × ((first ≢ self.now.q) × ((second ≢ self.now.p) × (second ≢ self.now.q))) }
+        ensures k { k.new ≡ rebuilt (held_by self.now) self.now.p }
+        ensures l { l.new ≡ rebuilt (held_by self.now) self.now.q }
+        ensures one { one.new ≡ rebuilt (held_by self.now) first }
+        ensures two { two.new ≡ rebuilt (held_by self.now) second }
+    {
+        let Four { w, x, y, .. } = self.pieces;
+        k.copy_from_slice(w);
+        l.copy_from_slice(x);
+        fill_lost(second, first, &self.pieces, two);
+        let but_q = Four { w, x, y, z: two };
+        but_q.blend::<1, 1, 1, 1>(one);
+    }
+
+    // The four data pieces.
+    #[tactic(auto, using(crate::proofs::Pieces::all_data))]
+    pub(crate) fn write_data(&self, a: &mut [u8], b: &mut [u8], c: &mut [u8], d: &mut [u8])
+        requires { (length a.old ≡ length self.now.pieces.w.now) × ((length b.old ≡ length self.now.pieces.w.now) × ((length c.old ≡ length self.now.pieces.w.now) × (length d.old ≡ length self.now.pieces.w.now))) }
+        ensures { a.new ∷ b.new ∷ c.new ∷ d.new ∷ [] ≡ decoded (held_by self.now) }
+    {
+        if self.r != 4 {
+            self.piece(0, a);
+            self.piece(1, b);
+            self.piece(2, c);
+            self.piece(3, d);
+            return;
+        }
+        match (self.p, self.q) {
+            (0, 1) => self.two_lost(a, b, 2, c, 3, d),
+            (0, 2) => self.two_lost(a, c, 1, b, 3, d),
+            (0, 3) => self.two_lost(a, d, 1, b, 2, c),
+            (1, 2) => self.two_lost(b, c, 0, a, 3, d),
+            (1, 3) => self.two_lost(b, d, 0, a, 2, c),
+            _ => self.two_lost(c, d, 0, a, 1, b),
+        }
+    }
+}
