@@ -1,7 +1,7 @@
 // `pieces` for programs in C and Rust that link it: `rt lib` in crates/pieces_c. A slice is a pointer and a length there.
 #![tactic(auto)]
 
-ghost use Rattle.std.specs.Prelude.{ltb, length, cond, ◌&&◌, [], ◌∷◌, ◌≡◌};
+ghost use Rattle.std.specs.Prelude.{nat_lt, length, ◌&&◌, [], ◌∷◌, ◌≡◌, if◌then◌else◌};
 ghost use Rattle.field.specs.Stripe.{decoded, four_held, parity_p, parity_q, rebuilt};
 ghost use Rattle.elements.specs.Accepted.{all_of, rising};
 
@@ -17,10 +17,10 @@ pub extern "C" fn pieces_encode(
     q: &mut [u8],
 ) -> bool
     ensures answer { result ≡ all_of (length a.now) (b.now ∷ c.now ∷ d.now ∷ p.old ∷ q.old ∷ []) }
-    ensures p { p.new ≡ cond result (parity_p a.now b.now c.now d.now) p.old }
-    ensures q { q.new ≡ cond result (parity_q a.now b.now c.now d.now) q.old }
+    ensures p { p.new ≡ (if result then parity_p a.now b.now c.now d.now else p.old) }
+    ensures q { q.new ≡ (if result then parity_q a.now b.now c.now d.now else q.old) }
 {
-    pieces::encode(a, b, c, d, p, q)
+    pieces::encode(a, b, c, d, p, q).is_ok()
 }
 
 #[unsafe(no_mangle)]
@@ -36,8 +36,8 @@ pub extern "C" fn pieces_rebuild(
     wanted: usize,
     out: &mut [u8],
 ) -> bool
-    ensures answer { result ≡ (rising p q r s && all_of (length w.now) (x.now ∷ y.now ∷ z.now ∷ [])) && (ltb wanted 6 && all_of (length w.now) (out.old ∷ [])) }
-    ensures piece { out.new ≡ cond result (rebuilt (four_held p q r s w.now x.now y.now z.now) wanted) out.old }
+    ensures answer { result ≡ (rising p q r s && all_of (length w.now) (x.now ∷ y.now ∷ z.now ∷ [])) && (nat_lt wanted 6 && all_of (length w.now) (out.old ∷ [])) }
+    ensures piece { out.new ≡ (if result then rebuilt (four_held p q r s w.now x.now y.now z.now) wanted else out.old) }
 {
     pieces::rebuild(
         Held { place: p, bytes: w },
@@ -47,6 +47,7 @@ pub extern "C" fn pieces_rebuild(
         wanted,
         out,
     )
+    .is_ok()
 }
 
 #[unsafe(no_mangle)]
@@ -65,7 +66,7 @@ pub extern "C" fn pieces_decode(
     d: &mut [u8],
 ) -> bool
     ensures answer { result ≡ (rising p q r s && all_of (length w.now) (x.now ∷ y.now ∷ z.now ∷ [])) && all_of (length w.now) (a.old ∷ b.old ∷ c.old ∷ d.old ∷ []) }
-    ensures content { a.new ∷ b.new ∷ c.new ∷ d.new ∷ [] ≡ cond result (decoded (four_held p q r s w.now x.now y.now z.now)) (a.old ∷ b.old ∷ c.old ∷ d.old ∷ []) }
+    ensures content { a.new ∷ b.new ∷ c.new ∷ d.new ∷ [] ≡ (if result then decoded (four_held p q r s w.now x.now y.now z.now) else a.old ∷ b.old ∷ c.old ∷ d.old ∷ []) }
 {
     pieces::decode(
         Held { place: p, bytes: w },
@@ -77,4 +78,5 @@ pub extern "C" fn pieces_decode(
         c,
         d,
     )
+    .is_ok()
 }
