@@ -79,6 +79,7 @@ impl Writer<'_> {
         self.put(&n.to_be_bytes())
     }
 
+    #[tactic(auto, using(crate::proofs::Puts::room_behind))]
     fn put_field(&mut self, field: Field<'_>)
         requires fits { field_fits field ≡ true }
         requires room { HasRoom (field_bytes field) self.old }

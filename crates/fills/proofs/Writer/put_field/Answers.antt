@@ -2,15 +2,6 @@ use Rattle.std.proofs.Common.{rules}
 use Rattle.fills.proofs.Puts.{room_behind, puts_as}
 use Rattle.fills.proofs.Writer.put_field.Goals as goal
 
-pub put-requires-in-Expects-Is-2 : goal.put-requires-in-Expects-Is-2
-put-requires-in-Expects-Is-2 c = search (rules, room_behind)
-
-pub put-requires-in-Name-2 : goal.put-requires-in-Name-2
-put-requires-in-Name-2 c = search (rules, room_behind)
-
-pub put-requires-in-Content : goal.put-requires-in-Content
-put-requires-in-Content c = search (rules, room_behind)
-
 pub returns-in-Expects-Is : goal.returns-in-Expects-Is
 returns-in-Expects-Is c = puts_as _ _ _ _ _ _ (search rules) c.requires.room c.put-in-Expects-Is.ensures c.put-in-Expects-Is-2.ensures
 
