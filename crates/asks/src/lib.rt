@@ -1,7 +1,7 @@
 // Calls are written as lines, by whoever asks.
 #![tactic(auto, unfolding(meaning::specs::Lists::every, lines::specs::Calls::many))]
 
-ghost use Rattle.std.specs.Prelude.{◌≡◌, true, ◌&&◌, [], ◌∷◌};
+ghost use Rattle.std.specs.Prelude.{true, ◌&&◌};
 ghost use Rattle.meaning.specs.Rooms.{Tick};
 ghost use Rattle.asks.specs.Short.{changes, fits, of_room, reads, uploads};
 ghost use Rattle.fills.specs.Fills.{Wrote};
@@ -9,7 +9,7 @@ ghost use Rattle.lines.specs.Calls.{call_bytes, line_of};
 ghost use Rattle.lines.specs.Means.{means};
 
 use fills::Field::{Content, Expects, Flag, Name, Plain, U8, U16, U32, U64};
-use fills::{Field, write_line};
+use fills::write_line;
 use lines::calls::{Call, are_rules};
 
 // One match over all fourteen calls would be longer than a function may be, so each sort of call has its own.
