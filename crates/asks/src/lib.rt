@@ -1,7 +1,7 @@
 // Calls are written as lines, by whoever asks.
-#![tactic(auto)]
+#![tactic(auto, unfolding(meaning::specs::Lists::every, lines::specs::Calls::many))]
 
-ghost use Rattle.std.specs.Prelude.{◌≡◌, true, ◌&&◌, [], ◌∷◌};
+ghost use Rattle.std.specs.Prelude.{true, ◌&&◌};
 ghost use Rattle.meaning.specs.Rooms.{Tick};
 ghost use Rattle.asks.specs.Short.{changes, fits, of_room, reads, uploads};
 ghost use Rattle.fills.specs.Fills.{Wrote};
@@ -9,14 +9,10 @@ ghost use Rattle.lines.specs.Calls.{call_bytes, line_of};
 ghost use Rattle.lines.specs.Means.{means};
 
 use fills::Field::{Content, Expects, Flag, Name, Plain, U8, U16, U32, U64};
-use fills::{Field, write_line};
+use fills::write_line;
 use lines::calls::{Call, are_rules};
 
-fn time_fields(ms: u64) -> [Field<'static>; 2]
-    ensures { result ≡ Field.U8 14 ∷ Field.U64 ms ∷ [] }
-{
-    [U8(14), U64(ms)]
-}
+// One match over all fourteen calls would be longer than a function may be, so each sort of call has its own.
 
 // Writes a call that makes, drops or rules a room, and leaves `out` alone at any other.
 fn write_room(tag: u32, call: Call<'_>, out: &mut [u8]) -> Option<usize>
@@ -136,8 +132,8 @@ fn write_upload(tag: u32, call: Call<'_>, out: &mut [u8]) -> Option<usize>
     }
 }
 
-// Writes the call to the front of `out` and says how long its line is, or leaves `out` alone: where there is
-// too little room, or no line can hold it.
+// Writes the call to the front of `out` and says how much of it that took, as `Read::read` does, or leaves `out`
+// alone: where there is too little room, or no line can hold it.
 pub fn write_call(tag: u32, call: Call<'_>, out: &mut [u8]) -> Option<usize>
     ensures { Wrote (fits call.entry) (line_of tag (call_bytes (means call.entry))) out.old result out.new }
 {
@@ -149,20 +145,13 @@ pub fn write_call(tag: u32, call: Call<'_>, out: &mut [u8]) -> Option<usize>
         Call::Get { .. } | Call::Look { .. } | Call::Versions { .. } => write_read(tag, call, out),
         Call::Begin { .. } | Call::Part { .. } | Call::Complete { .. } | Call::Abort { .. } =>
             write_upload(tag, call, out),
-        Call::Time { ms } => write_line(tag, &time_fields(ms), out),
+        Call::Time { ms } => write_line(tag, &[U8(14), U64(ms)], out),
     }
-}
-
-fn telling(ms: u64) -> Call<'static>
-    ensures { result ≡ Call.Time ms }
-{
-    Call::Time { ms }
 }
 
 // Writes the line that tells a time to the front of `out`, if there is room for it.
 pub fn write_time(tag: u32, ms: u64, out: &mut [u8]) -> Option<usize>
     ensures { Wrote true (line_of tag (call_bytes (Tick ms))) out.old result out.new }
 {
-    let call = telling(ms);
-    write_call(tag, call, out)
+    write_call(tag, Call::Time { ms }, out)
 }

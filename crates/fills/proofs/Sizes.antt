@@ -32,7 +32,7 @@ fit_step fs i h e = and_true _ _ (sym (ap (every field_fits) (drop_more fs i (U8
 
 -- what the size of a field told
 abbrev pub Told : Option ℕ → Field → Type 0
-Told o f = o ≡ cond (field_fits f) (Some (length (field_bytes f))) None
+Told o f = o ≡ cond (field_fits f && ltb (length (field_bytes f)) 4294967296) (Some (length (field_bytes f))) None
 
 pub told_some : (b : Bool) (n m : ℕ) → Some n ≡ cond b (Some m) None → (b ≡ true) × (n ≡ m)
 told_some true n m e = (refl, cc)
@@ -50,16 +50,22 @@ sized_more : (n : ℕ) (f : Field) (fs : List Field) → field_fits f ≡ true �
 unfolding every many
 sized_more n f fs e = rw (e, length-append, ← add_assoc)
 
-sized_unfit : (n : ℕ) (f : Field) (fs : List Field) → field_fits f ≡ false → sized n (f ∷ fs) ≡ None
-sized_unfit n f fs e = rw (fit_more f fs, e)
+not_both : (b others : Bool) (m n : ℕ) → (b && ltb m 4294967296) ≡ false → m ≤ n → cond ((b && others) && ltb n 4294967296) (Some n) None ≡ None
+not_both true others m n e h = go_over others n (grind (arith, nat_tests))
+not_both false others m n e h = refl
+
+sized_not : (n : ℕ) (f : Field) (fs : List Field) → (field_fits f && ltb (length (field_bytes f)) 4294967296) ≡ false → sized n (f ∷ fs) ≡ None
+sized_not n f fs e =
+    let more = body_more f fs in
+    rw (fit_more f fs) (not_both (field_fits f) (every field_fits fs) (length (field_bytes f)) (n + length (body_bytes (f ∷ fs))) e (omega (arith, ap length more, length-append (field_bytes f) (body_bytes fs))))
 
 pub sized_step : (fs : List Field) (i n m : ℕ) → i < length fs → Told (Some m) (at fs i) → sized n (drop i fs) ≡ sized (n + m) (drop (i + 1) fs)
 sized_step fs i n m h e =
     let t = told_some _ _ _ e in
-    ap (sized n) (drop_more fs i (U8 0) h) ∙ sized_more n (at fs i) (drop (i + 1) fs) t.0 ∙ ap (λ (k : ℕ). sized (n + k) (drop (i + 1) fs)) (sym t.1)
+    ap (sized n) (drop_more fs i (U8 0) h) ∙ sized_more n (at fs i) (drop (i + 1) fs) (and_true _ _ t.0).0 ∙ ap (λ (k : ℕ). sized (n + k) (drop (i + 1) fs)) (sym t.1)
 
 pub sized_stop : (fs : List Field) (i n : ℕ) → i < length fs → Told None (at fs i) → sized n (drop i fs) ≡ None
-sized_stop fs i n h e = ap (sized n) (drop_more fs i (U8 0) h) ∙ sized_unfit n (at fs i) (drop (i + 1) fs) (told_none _ _ e)
+sized_stop fs i n h e = ap (sized n) (drop_more fs i (U8 0) h) ∙ sized_not n (at fs i) (drop (i + 1) fs) (told_none _ _ e)
 
 pub sized_over : (fs : List Field) (i n : ℕ) → 4294967296 ≤ n → sized n (drop i fs) ≡ None
 sized_over fs i n h = go_over (every field_fits (drop i fs)) (n + length (body_bytes (drop i fs))) (omega arith)

@@ -1,11 +1,12 @@
 -- What is written to the front of a buffer.
 -- Assumes nothing.
-use Rattle.std.specs.Prelude.{◌≡◌, ℕ, ◌+◌, Bool, true, cond, ◌&&◌, List, ◌++◌, length, take, drop, Some, None, Option, nat_le, nat_lt}
+use Rattle.std.specs.Prelude.{◌≡◌, ℕ, ◌+◌, ◌≤◌, Bool, true, cond, ◌&&◌, List, ◌++◌, length, take, drop, Some, None, Option, nat_le, nat_lt}
 use Rattle.meaning.specs.Lists.{every}
 use Rattle.lines.specs.Fields.{number}
 use Rattle.lines.specs.Calls.{flag, expected, name, content, many}
 use Rattle.lines.specs.Means.{expects}
 use Rattle.fills.specs.declared.Field.{Field}
+use Rattle.fills.specs.declared.Writer.{Writer}
 use Rattle.fills.specs.declared.Field.TheVariants.{U8, U16, U32, U64, Flag, Expects, Name, Content, Plain}
 
 abbrev pub field_bytes : Field → List ℕ
@@ -45,6 +46,16 @@ line_fits fs = every field_fits fs && nat_lt (4 + length (body_bytes fs)) 429496
 -- these bytes from a place on, and all else as it was
 unfoldable pub put_at : ℕ → List ℕ → List ℕ → List ℕ
 put_at at bs out = take at out ++ (bs ++ drop (at + length bs) out)
+
+abbrev pub HasRoom : List ℕ → Writer → Type 0
+HasRoom bs w = w.at + length bs ≤ length w.out.now
+
+-- the bytes stand from the writer's place on, and it is behind them, in the same buffer
+pub record Puts (bs : List ℕ) (before after : Writer) : Type 0 where
+  pub same : after.out.ghost_name ≡ before.out.ghost_name
+  pub as_long : length after.out.now ≡ length before.out.now
+  pub at_is : after.at ≡ before.at + length bs
+  pub out_is : after.out.now ≡ put_at before.at bs before.out.now
 
 -- where this line can be one and there is room for it, it is written to the front and its length told; else nothing is changed
 pub record Wrote (fits : Bool) (line out : List ℕ) (told : Option ℕ) (after : List ℕ) : Type 0 where

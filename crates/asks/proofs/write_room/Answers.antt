@@ -1,18 +1,10 @@
-use Rattle.std.proofs.Common.{◌≡◌, true, sym, ap, ◌∙◌}
+use Rattle.std.proofs.Common.{◌≡◌, true, refl, sym, ◌∙◌}
 use Rattle.lines.specs.Calls.{are_many, rule_in}
 use Rattle.asks.specs.Short.{of_room}
-use Rattle.asks.proofs.Writes.{wrote_as, as_kind, make_room_is, drop_room_is, rules_is}
+use Rattle.asks.proofs.Writes.{wrote_as, rules_is}
 use Rattle.asks.proofs.write_room.Goals as goal
-
-pub returns-in-MakeRoom : goal.returns-in-MakeRoom
-returns-in-MakeRoom c =
-    as_kind _ c.args.call _ _ _ _ (ap of_room c.in-MakeRoom.is) (wrote_as _ c.args.call _ _ _ _ _ (make_room_is c.in-MakeRoom.name c.in-MakeRoom.keeps) c.in-MakeRoom.is c.write_line.ensures)
-
-pub returns-in-DropRoom : goal.returns-in-DropRoom
-returns-in-DropRoom c =
-    as_kind _ c.args.call _ _ _ _ (ap of_room c.in-DropRoom.is) (wrote_as _ c.args.call _ _ _ _ _ (drop_room_is c.in-DropRoom.name) c.in-DropRoom.is c.write_line-in-DropRoom.ensures)
 
 pub returns-else-not-are_rules : goal.returns-else-not-are_rules
 returns-else-not-are_rules c =
     let are : are_many rule_in c.in-Rules.count c.in-Rules.rules.now ≡ true = sym c.are_rules.ensures.are ∙ c.if-not-are_rules.false in
-    as_kind _ c.args.call _ _ _ _ (ap of_room c.in-Rules.is) (wrote_as _ c.args.call _ _ _ _ _ (rules_is c.in-Rules.room c.in-Rules.count c.in-Rules.rules c.are_rules.ensures.bytes are) c.in-Rules.is c.write_line-in-Rules.ensures)
+    wrote_as of_room _ c.args.call _ _ _ _ _ (rules_is c.in-Rules.room c.in-Rules.count c.in-Rules.rules c.are_rules.ensures.bytes are) refl c.in-Rules.is c.write_line-in-Rules.ensures

@@ -1,9 +1,9 @@
-use Rattle.std.proofs.Common.{◌≡◌, ℕ, ◌+◌, ◌<◌, ◌≤◌, List, length, ap, ◌∙◌, arith}
+use Rattle.std.proofs.Common.{◌≡◌, ℕ, ◌+◌, ◌<◌, ◌≤◌, [], ◌++◌, length, drop, refl, sym, ap, zero-add, rules, ◌∙◌, arith}
 use Rattle.std.proofs.lemmas.Bool.Decides.{nat_tests}
 use Rattle.lines.specs.Calls.{line_of}
 use Rattle.lines.specs.Fields.{number}
-use Rattle.fills.specs.Fills.{body_bytes, line_fits, put_at}
-use Rattle.fills.proofs.Puts.{put_line}
+use Rattle.fills.specs.Fills.{body_bytes, line_fits}
+use Rattle.fills.proofs.Puts.{put_first, puts_line}
 use Rattle.fills.proofs.Sizes.{told_some, goes, stays, line_long}
 use Rattle.fills.proofs.write_line.Goals as goal
 
@@ -27,10 +27,7 @@ returns c =
     let told = told_some (line_fits fs) c.in_ok-total.total (4 + length body) c.in_ok-total.ensures in
     let long = line_long tag body in
     let room : length (line_of tag body) ≤ length out = omega (arith, told.1) in
-    let n : c.put_fields.result ≡ length (line_of tag body) = omega (arith, c.put_fields.ensures.at, c.put_u32-at.ensures.at, c.put_u32-at-2.ensures.at) in
-    let now : c.put_fields.new.out ≡ put_at c.put_u32-at-2.result body (put_at c.put_u32-at.result (number 4 tag) (put_at 0 (number 4 (4 + length body)) out)) =
-    c.put_fields.ensures.out
-    ∙ ap (λ (l : List ℕ). put_at c.put_u32-at-2.result body l) (c.put_u32-at-2.ensures.out
-    ∙ ap (λ (l : List ℕ). put_at c.put_u32-at.result (number 4 tag) l) (c.put_u32-at.ensures.out ∙ ap (λ (k : ℕ). put_at 0 (number 4 k) out) told.1)) in
-    goes (line_fits fs) (line_of tag body) out c.put_fields.result c.put_fields.new.out told.0 room n
-    (now ∙ put_line (number 4 (4 + length body)) (number 4 tag) body out c.put_u32-at.result c.put_u32-at-2.result c.put_u32-at.ensures.at c.put_u32-at-2.ensures.at room)
+    let e : line_of tag body ≡ number 4 c.in_ok-total.total ++ (number 4 tag ++ (body ++ [])) = ap (λ (n : ℕ). number 4 n ++ (number 4 tag ++ (body ++ []))) (sym told.1) in
+    let done = puts_line (line_of tag body) _ _ _ _ _ _ _ e refl room c.put_u32.ensures c.put_u32-2.ensures c.put_fields.ensures in
+    let after : c.put_fields.new.self.out.now ≡ line_of tag body ++ drop (length (line_of tag body)) out = done.out_is ∙ put_first (line_of tag body) out in
+    goes _ _ _ _ _ told.0 room (done.at_is ∙ zero-add (length (line_of tag body))) (search (rules, after))
