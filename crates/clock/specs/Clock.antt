@@ -72,11 +72,8 @@ turn_in (Setting t) time tag r = goes t tag (Over (Ok tt)) None
 turn_in (Over x) time tag r = goes time tag (Over x) None
 
 abbrev pub said_in : Phase → Result Unit Refusal
-said_in Rising = Ok tt
-said_in Getting = Ok tt
-said_in (Begun h) = Ok tt
-said_in (Setting t) = Ok tt
 said_in (Over x) = x
+said_in p = Ok tt
 
 abbrev pub clock_code : Planning Call Reply Asked Told Clock
 clock_code =

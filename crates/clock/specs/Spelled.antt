@@ -28,19 +28,7 @@ refusal_of k =
 -- only telling the time is built, so nothing else is heard
 abbrev pub heard_call : meaning.Call → Result ℕ Refusal
 heard_call (meaning.Tick t) = Ok t
-heard_call (meaning.MakeRoom n k) = Err NotBuilt
-heard_call (meaning.DropRoom n) = Err NotBuilt
-heard_call (meaning.Put n k bs x) = Err NotBuilt
-heard_call (meaning.Get n k num from most) = Err NotBuilt
-heard_call (meaning.Remove n k num) = Err NotBuilt
-heard_call (meaning.Look n p a most) = Err NotBuilt
-heard_call (meaning.Versions n k) = Err NotBuilt
-heard_call (meaning.Begin n k) = Err NotBuilt
-heard_call (meaning.PutPart n u p bs) = Err NotBuilt
-heard_call (meaning.Complete n u x) = Err NotBuilt
-heard_call (meaning.Abort n u) = Err NotBuilt
-heard_call (meaning.Hold n k num until) = Err NotBuilt
-heard_call (meaning.SetRules n rs) = Err NotBuilt
+heard_call c = Err NotBuilt
 
 abbrev pub heard_as : Result meaning.Call ℕ → Result ℕ Refusal
 heard_as (Err k) = Err (refusal_of k)

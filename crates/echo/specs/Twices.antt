@@ -13,10 +13,8 @@ turn_in Second ok = record { me = Over ok; next = None }
 turn_in (Over was) ok = record { me = Over was; next = None }
 
 abbrev pub said_in : Twice → Bool
-said_in (Begun s) = false
-said_in First = false
-said_in Second = false
 said_in (Over ok) = ok
+said_in t = false
 
 abbrev pub twice_code : Planning ℕ Bool ℕ Bool Twice
 twice_code = record { turns = λ t r. turn_in t (unwrap_or r false); rising = λ size. Over false; starts = λ c t. Begun c; says = said_in }
