@@ -18,6 +18,7 @@ pub struct Asked {
     pub heard: Result<u64, Refusal>,
 }
 
+// The answer to a line: that it was done, or why it is turned away.
 #[derive(Clone, Copy, PartialEq, Eq)]
 pub struct Told {
     pub tag: u32,
@@ -124,8 +125,7 @@ impl Clock {
     {
         let ms = heard?;
         if ms < 1 << 62 && 0 < ms {
-            let time = self.time.max(ms);
-            Ok(time)
+            Ok(self.time.max(ms))
         } else {
             Err(Refusal::Wrong)
         }

@@ -2,7 +2,7 @@
 -- Assumes nothing.
 use Rattle.std.specs.Prelude.{◌≡◌, ℕ, zero, suc, ◌≤◌, Bool, true, false, cond, List, [], refl}
 use Rattle.std.proofs.Common.{ap, arith}
-use Rattle.std.proofs.Math.Path.{fun_ext, subst⁻¹}
+use Rattle.std.proofs.Math.Path.{fun_ext}
 use Rattle.drives.specs.Drives.{Io, answer, read, write, sync, then'}
 use Rattle.steps.specs.Steps.{Held, Stepped, sector_at}
 use Rattle.steps.specs.Ties.{Goes}
@@ -45,7 +45,7 @@ module _ {M B : Type 0} {f : Held M → List ℕ → Stepped M} {S : Held M → 
     answers d = record { go = d }
 
     pub follows : {D : Type 0} {n : ℕ} {x : Stepped M} {p : Io D} (q : D → Io A) → Does f S n x p (λ b. then' (q b) g) → Does f S n x (then' p q) g
-    follows {n = n} {x = x} {p = p} q d = record { go = subst⁻¹ (Goes f S n x) (then_then p q g) d.go }
+    follows {p = p} q d = record { go = rw (then_then p q g) d.go }
 
     pub reads : {n : ℕ} {me : M} {lent : Lent} {i s : ℕ} {k : List ℕ → Io A} → ((got : List ℕ) → Does f S n (f (record { me = me; lent = lent }) got) (k got) g) →
         Does f S (suc n) (record { me = me; lent = lent; ask = Read i s }) (read i s k) g
