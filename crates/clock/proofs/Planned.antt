@@ -1,15 +1,14 @@
 -- The clock's code is the plan to be read; and so it is where it is asked and answered by lines.
 -- Assumes nothing.
-use Rattle.std.specs.Prelude.{◌≡◌, ℕ, true, false, None, refl}
-use Rattle.std.proofs.Common.{ap, subst}
+use Rattle.std.specs.Prelude.{◌≡◌, ℕ, true, false, refl}
+use Rattle.std.proofs.Common.{ap}
 use Rattle.drives.specs.Layers.{Plan}
 use Rattle.steps.specs.Stacks.{Asked as Wants, Plans, Planned}
 use Rattle.register.specs.declared.Call.{Call}
 use Rattle.register.specs.declared.Reply.{Reply}
 use Rattle.lines.specs.Order.{tag_of}
-use Rattle.clock.specs.declared.Phase.TheVariants.{Begun}
 use Rattle.clock.specs.declared.Clock.{Clock}
-use Rattle.clock.specs.Clock.{Spoken, turn_in, clock_code, spoken, ClockSame}
+use Rattle.clock.specs.Clock.{Spoken, clock_code, spoken, ClockSame}
 use Rattle.clock.specs.Spelled.{asked_in, Written, told_bytes, retold, clock, line_code}
 use Rattle.clock.specs.Planned.{Ends, TellsAsPlanned, answers, planned_so}
 
@@ -32,7 +31,5 @@ pub lines_planned : (longest size : ℕ) → Planned (line_code longest) 2 size 
 lines_planned longest size =
     record {
       rises = (clock_planned size).rises;
-      answers = λ l u m s.
-          subst (λ (n : ℕ). Plans clock_code.turns EndsWritten 2 (turn_in (Begun (asked_in longest l u.time).heard) u.time (tag_of l) None) ((clock longest).answers l n)) s
-          (written (answers tells (asked_in longest l u.time).heard (tag_of l) u.time));
+      answers = λ l u m s. rw (← s) (written (answers tells (asked_in longest l u.time).heard (tag_of l) u.time));
     }

@@ -1,7 +1,6 @@
 -- The clock keeps to the meaning: the register has the time, and there is nothing else yet.
 -- Assumes nothing.
-use Rattle.std.proofs.Common.{◌≡◌, ℕ, ◌<◌, Bool, true, false, ◌&&◌, ltb, List, [], Ok, Err, Result, sym, refl, ap, ◌∙◌, subst, arith}
-use mathlib.Core.Path.{subst⁻¹}
+use Rattle.std.proofs.Common.{◌≡◌, ℕ, ◌<◌, Bool, true, false, ◌&&◌, ltb, List, [], Ok, Err, Result, refl, ap, ◌∙◌, arith}
 use Rattle.std.proofs.lemmas.Bool.Decides.{nat_tests as tests}
 use Rattle.drives.specs.Machines.{DoneOrNot}
 use Rattle.drives.specs.Layers.{Plan, Comes, CutShort}
@@ -55,7 +54,7 @@ module _ (longest size : ℕ) where
 
   -- the state is known by the memory
   here : {l : List ℕ} {m : ℕ} {s t : Payload} {a : meaning.State} {x : Written} → On m s a → Answered l (at m) x t → Answered l a x t
-  here {l} {m} {s} {t} {a} {x} o w = subst⁻¹ (λ (b : meaning.State). Answered l b x t) (o.off.is ∙ ap at (sym o.has)) w
+  here o w = rw (o.off.is, ← o.has) w
 
   stands : {m : ℕ} {s : Payload} {a : meaning.State} → On m s a → On m s (at m)
   stands o = record { has = o.has; off = record { is = ap at o.has; low = o.off.low } }
@@ -63,8 +62,7 @@ module _ (longest size : ℕ) where
   -- the answer that the meaning gives to what was heard
   heard_so : (l : List ℕ) (m : ℕ) (r : Result meaning.Call ℕ) → heard only_time longest l m 1 ≡ r →
       promise.Answers only_time longest size l (at m) (promise.reply_to l (carried_out r (at m)).reply) (carried_out r (at m)).state
-  heard_so l m r e =
-      subst (λ (q : Result meaning.Call ℕ). promise.Answers only_time longest size l (at m) (promise.reply_to l (carried_out q (at m)).reply) (carried_out q (at m)).state) e (promise.says_so l (at m))
+  heard_so l m r e = rw (← e) (promise.says_so l (at m))
 
   refused : (l : List ℕ) (k m : ℕ) {s : Payload} {a : meaning.State} → On m s a → heard only_time longest l m 1 ≡ Err k → Answered l a (record { reply = promise.reply_to l (meaning.No k); mem = m }) s
   refused l k m o e = here o (at m, heard_so l m (Err k) e, stands o)
@@ -73,17 +71,16 @@ module _ (longest size : ℕ) where
       Answered l a (record { reply = promise.reply_to l meaning.Yes; mem = later t m }) (kept (record { time = later t m }))
   told l t m o e h =
       let b = later_low t m h (omega arith) in
-      let k = kept_same (later t m) b in
       here o (
         at (later t m),
-        subst (λ (x : meaning.Out). promise.Answers only_time longest size l (at m) (promise.reply_to l x.reply) x.state) (ticks t m h) (heard_so l m (Ok (meaning.Tick t)) e),
-        subst⁻¹ (λ (p : Payload). On (later t m) p (at (later t m))) k (record { has = refl; off = record { is = refl; low = b } }),
+        rw (ticks t m h) at (heard_so l m (Ok (meaning.Tick t)) e),
+        rw (kept_same (later t m) b) (record { has = refl; off = record { is = refl; low = b } }),
       )
 
   out_of_range : (l : List ℕ) (t m : ℕ) {s : Payload} {a : meaning.State} → On m s a → heard only_time longest l m 1 ≡ Ok (meaning.Tick t) → small t && ltb 0 t ≡ false →
       Answered l a (record { reply = promise.reply_to l (meaning.No 1); mem = m }) s
   out_of_range l t m o e h =
-      here o (at m, subst (λ (x : meaning.Out). promise.Answers only_time longest size l (at m) (promise.reply_to l x.reply) x.state) (ticks_not t m h) (heard_so l m (Ok (meaning.Tick t)) e), stands o)
+      here o (at m, rw (ticks_not t m h) at (heard_so l m (Ok (meaning.Tick t)) e), stands o)
 
   -- WHOLE CALLS
 
@@ -98,11 +95,10 @@ module _ (longest size : ℕ) where
 
   call : (r : Result meaning.Call ℕ) (l : List ℕ) (m : ℕ) {x : Written} {s u : Payload} {a : meaning.State} → On m s a → heard only_time longest l m 1 ≡ r → Comes (register size) (planned r l m) s x u → Answered l a x u
   unfolding retold told_bytes promise.reply_to
-  call (Err k) l m {x} {s} {u} {a} o e Comes.ends =
-      subst⁻¹ (λ (n : ℕ). Answered l a (record { reply = promise.reply_to l (meaning.No n); mem = m }) s) (heard_number longest m 1 l k e) (refused l k m o e)
-  call (Ok c) l m {x} {s} {u} o e q =
+  call (Err k) l m o e Comes.ends = rw (heard_number longest m 1 l k e) (refused l k m o e)
+  call (Ok c) l m o e q =
       let (t, f) = heard_ticks longest m 1 l c e in
-      tell (small t && ltb 0 t) l t m refl o (e ∙ ap (λ d. Ok d) f) (subst (λ (d : meaning.Call). Comes (register size) (planned (Ok d) l m) s x u) f q)
+      tell (small t && ltb 0 t) l t m refl o (e ∙ ap (λ d. Ok d) f) (rw f at q)
 
   -- CALLS CUT SHORT
 
@@ -111,10 +107,10 @@ module _ (longest size : ℕ) where
   Broken l a u = (b : meaning.State) × DoneOrNot (promise.Answers only_time longest size) down l a b × Off u b
 
   not_done : {l : List ℕ} {m : ℕ} {s u : Payload} {a : meaning.State} → On m s a → u ≡ s → Broken l a u
-  not_done {l} {m} {s} {u} {a} o e = (a, DoneOrNot.undone refl, subst⁻¹ (λ (p : Payload). Off p a) e o.off)
+  not_done {a = a} o e = (a, DoneOrNot.undone refl, rw e o.off)
 
   was_done : {l : List ℕ} {x : Written} {t u : Payload} {a : meaning.State} → Answered l a x t → u ≡ t → Broken l a u
-  was_done {l} {x} {t} {u} {a} (b, w, o) e = (b, DoneOrNot.done w refl, subst⁻¹ (λ (p : Payload). Off p b) e o.off)
+  was_done (b, w, o) e = (b, DoneOrNot.done w refl, rw e o.off)
 
   tell_cut : (b : Bool) (l : List ℕ) (t m : ℕ) {s u : Payload} {a : meaning.State} → small t && ltb 0 t ≡ b → On m s a → heard only_time longest l m 1 ≡ Ok (meaning.Tick t) →
       CutShort (register size) (retold (tells_if b (tag_of l) t m)) s u → Broken l a u
@@ -128,9 +124,9 @@ module _ (longest size : ℕ) where
   call_cut : (r : Result meaning.Call ℕ) (l : List ℕ) (m : ℕ) {s u : Payload} {a : meaning.State} → On m s a → heard only_time longest l m 1 ≡ r → CutShort (register size) (planned r l m) s u → Broken l a u
   unfolding retold
   call_cut (Err k) l m o e (CutShort.at_once f) = not_done o f
-  call_cut (Ok c) l m {s} {u} o e q =
+  call_cut (Ok c) l m o e q =
       let (t, f) = heard_ticks longest m 1 l c e in
-      tell_cut (small t && ltb 0 t) l t m refl o (e ∙ ap (λ d. Ok d) f) (subst (λ (d : meaning.Call). CutShort (register size) (planned (Ok d) l m) s u) f q)
+      tell_cut (small t && ltb 0 t) l t m refl o (e ∙ ap (λ d. Ok d) f) (rw f at q)
 
   -- COMING UP
 
@@ -138,7 +134,7 @@ module _ (longest size : ℕ) where
   rises o (Comes.goes_on (gets s) Comes.ends) = record { has = refl; off = o }
 
   same : {s u : Payload} {a : meaning.State} → Off s a → u ≡ s → (b : meaning.State) × (b ≡ down a) × Off u b
-  same {s} {u} {a} o e = (a, refl, subst⁻¹ (λ (p : Payload). Off p a) e o)
+  same {a = a} o e = (a, refl, rw e o)
 
   rise_cut : {s u : Payload} {a : meaning.State} → Off s a → CutShort (register size) ((clock longest).comes_up size) s u → (b : meaning.State) × (b ≡ down a) × Off u b
   rise_cut o (CutShort.at_once f) = same o f

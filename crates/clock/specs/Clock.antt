@@ -1,21 +1,16 @@
 -- The clock: a layer that tells and keeps the time, over a register. First as a plan to be read, then as its code does it.
 -- Assumes nothing.
-use Rattle.std.specs.Prelude.{◌≡◌, ℕ, Bool, true, false, cond, ◌&&◌, Some, None, Option, nat_lt}
+use Rattle.std.specs.Prelude.{◌≡◌, ℕ, Bool, true, false, cond, ◌&&◌, Some, None, Ok, Err, Option, Result, nat_lt}
 use Rattle.drives.specs.Layers.{Plan, gives, asks, Layer}
 use Rattle.steps.specs.Stacks.{Asked as Wants, Planning}
-use Rattle.steps.specs.declared.Next.{Next}
-use Rattle.steps.specs.declared.Next.TheVariants as next
 use Rattle.register.specs.declared.Call.{Call}
 use Rattle.register.specs.declared.Call.TheVariants.{Set, Get}
 use Rattle.register.specs.declared.Reply.{Reply}
 use Rattle.register.specs.declared.Reply.TheVariants.{Done, Is}
 use Rattle.meaning.specs.Does.{small, later}
+use Rattle.lines.specs.declared.order.Refusal.{Refusal}
 use Rattle.lines.specs.declared.order.Refusal.TheVariants.{Wrong}
-use Rattle.clock.specs.declared.Heard.{Heard}
-use Rattle.clock.specs.declared.Heard.TheVariants.{Refused, Tells}
 use Rattle.clock.specs.declared.Asked.{Asked}
-use Rattle.clock.specs.declared.Said.{Said}
-use Rattle.clock.specs.declared.Said.TheVariants.{No, Yes}
 use Rattle.clock.specs.declared.Told.{Told}
 use Rattle.clock.specs.declared.Phase.{Phase}
 use Rattle.clock.specs.declared.Phase.TheVariants.{Rising, Getting, Begun, Setting, Over}
@@ -26,17 +21,17 @@ use Rattle.clock.specs.declared.Clock.{Clock}
 abbrev pub Spoken : Type 0
 Spoken = record { reply : Told; mem : ℕ }
 
-abbrev pub says : ℕ → Said → ℕ → Plan Call Reply Spoken
+abbrev pub says : ℕ → Result Unit Refusal → ℕ → Plan Call Reply Spoken
 says tag x m = gives (record { reply = record { tag = tag; said = x }; mem = m })
 
 -- a time in range is kept, if it is later, and answered once it is
 abbrev pub tells_if : (in_range : Bool) → (tag t m : ℕ) → Plan Call Reply Spoken
-tells_if true tag t m = asks (Set (record { time = later t m })) (λ r. says tag Yes (later t m))
-tells_if false tag t m = says tag (No Wrong) m
+tells_if true tag t m = asks (Set (record { time = later t m })) (λ r. says tag (Ok tt) (later t m))
+tells_if false tag t m = says tag (Err Wrong) m
 
-abbrev pub answers_to : Heard → (tag m : ℕ) → Plan Call Reply Spoken
-answers_to (Refused why) tag m = says tag (No why) m
-answers_to (Tells t) tag m = tells_if (small t && nat_lt 0 t) tag t m
+abbrev pub answers_to : Result ℕ Refusal → (tag m : ℕ) → Plan Call Reply Spoken
+answers_to (Err why) tag m = says tag (Err why) m
+answers_to (Ok t) tag m = tells_if (small t && nat_lt 0 t) tag t m
 
 abbrev pub time_in : Reply → ℕ
 time_in Done = 0
@@ -52,30 +47,33 @@ spoken =
 
 -- AS THE CODE DOES IT
 
-abbrev pub goes : (time tag : ℕ) → Phase → Next Call → Wants Clock Call
+abbrev pub goes : (time tag : ℕ) → Phase → Option Call → Wants Clock Call
 goes time tag p n = record { me = record { time = time; tag = tag; phase = p }; next = n }
 
 abbrev pub got_in : Option Reply → ℕ
 got_in None = 0
 got_in (Some r) = time_in r
 
-abbrev pub turn_in : Phase → (time tag : ℕ) → Option Reply → Wants Clock Call
-turn_in Rising time tag r = goes time tag Getting (next.Call Get)
-turn_in Getting time tag r = goes (got_in r) tag (Over Yes) next.Ready
-turn_in (Begun (Refused why)) time tag r = goes time tag (Over (No why)) next.Ready
-turn_in (Begun (Tells t)) time tag r =
-    cond (small t && nat_lt 0 t)
-    (goes time tag (Setting (later t time)) (next.Call (Set (record { time = later t time }))))
-    (goes time tag (Over (No Wrong)) next.Ready)
-turn_in (Setting t) time tag r = goes t tag (Over Yes) next.Ready
-turn_in (Over x) time tag r = goes time tag (Over x) next.Ready
+-- the time to be kept once this was heard: one in range, if it is later
+abbrev pub time_kept : Result ℕ Refusal → (time : ℕ) → Result ℕ Refusal
+time_kept (Err why) time = Err why
+time_kept (Ok t) time = cond (small t && nat_lt 0 t) (Ok (later t time)) (Err Wrong)
 
-abbrev pub said_in : Phase → Said
-said_in Rising = Yes
-said_in Getting = Yes
-said_in (Begun h) = Yes
-said_in (Setting t) = Yes
+-- and the register is asked to keep it
+abbrev pub keeps : Result ℕ Refusal → (time tag : ℕ) → Wants Clock Call
+keeps (Err why) time tag = goes time tag (Over (Err why)) None
+keeps (Ok t) time tag = goes time tag (Setting t) (Some (Set (record { time = t })))
+
+abbrev pub turn_in : Phase → (time tag : ℕ) → Option Reply → Wants Clock Call
+turn_in Rising time tag r = goes time tag Getting (Some Get)
+turn_in Getting time tag r = goes (got_in r) tag (Over (Ok tt)) None
+turn_in (Begun h) time tag r = keeps (time_kept h time) time tag
+turn_in (Setting t) time tag r = goes t tag (Over (Ok tt)) None
+turn_in (Over x) time tag r = goes time tag (Over x) None
+
+abbrev pub said_in : Phase → Result Unit Refusal
 said_in (Over x) = x
+said_in p = Ok tt
 
 abbrev pub clock_code : Planning Call Reply Asked Told Clock
 clock_code =

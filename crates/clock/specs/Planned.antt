@@ -1,18 +1,14 @@
 -- What the clock's code is at its end, and that it is the plan to be read wherever it tells the time as that plan does.
 -- Assumes nothing.
-use Rattle.std.specs.Prelude.{◌≡◌, ℕ, Bool, cond, ◌&&◌, None, nat_lt, refl}
+use Rattle.std.specs.Prelude.{◌≡◌, ℕ, Bool, cond, ◌&&◌, None, Ok, Err, Result, nat_lt, refl}
 use Rattle.std.proofs.Common.{subst}
 use Rattle.steps.specs.Stacks.{Plans, Planned}
 use Rattle.meaning.specs.Does.{small, later}
-use Rattle.clock.specs.declared.Heard.{Heard}
-use Rattle.clock.specs.declared.Heard.TheVariants.{Refused, Tells}
-use Rattle.clock.specs.declared.Phase.TheVariants.{Begun, Setting, Over}
-use Rattle.clock.specs.declared.Said.TheVariants.{No}
+use Rattle.clock.specs.declared.Phase.TheVariants.{Begun}
 use Rattle.clock.specs.declared.Clock.{Clock}
+use Rattle.lines.specs.declared.order.Refusal.{Refusal}
 use Rattle.lines.specs.declared.order.Refusal.TheVariants.{Wrong}
-use Rattle.register.specs.declared.Call.TheVariants.{Set}
-use Rattle.steps.specs.declared.Next.TheVariants as next
-use Rattle.clock.specs.Clock.{Spoken, tells_if, answers_to, goes, turn_in, clock_code, spoken, ClockSame}
+use Rattle.clock.specs.Clock.{Spoken, tells_if, answers_to, keeps, turn_in, clock_code, spoken, ClockSame}
 
 -- what is left at the end: the reply and the time
 abbrev pub Ends : Clock → Spoken → Type 0
@@ -22,15 +18,15 @@ Ends v x = (clock_code.says v ≡ x.reply) × (v.time ≡ x.mem)
 abbrev pub TellsSo : Bool → (tag t time : ℕ) → Type 0
 TellsSo b tag t time =
     Plans clock_code.turns Ends 2
-    (cond b (goes time tag (Setting (later t time)) (next.Call (Set (record { time = later t time })))) (goes time tag (Over (No Wrong)) next.Ready))
+    (keeps (cond b (Ok (later t time)) (Err Wrong)) time tag)
     (tells_if b tag t time)
 
 abbrev pub TellsAsPlanned : Type 0
 TellsAsPlanned = (b : Bool) (tag t time : ℕ) → TellsSo b tag t time
 
-pub answers : TellsAsPlanned → (h : Heard) (tag time : ℕ) → Plans clock_code.turns Ends 2 (turn_in (Begun h) time tag None) (answers_to h tag time)
-answers tells (Refused why) tag time = Plans.ends (refl, refl)
-answers tells (Tells t) tag time = tells (small t && nat_lt 0 t) tag t time
+pub answers : TellsAsPlanned → (h : Result ℕ Refusal) (tag time : ℕ) → Plans clock_code.turns Ends 2 (turn_in (Begun h) time tag None) (answers_to h tag time)
+answers tells (Err why) tag time = Plans.ends (refl, refl)
+answers tells (Ok t) tag time = tells (small t && nat_lt 0 t) tag t time
 
 pub planned_so : TellsAsPlanned → (size : ℕ) → Planned clock_code 2 size spoken (ClockSame size)
 planned_so tells size =

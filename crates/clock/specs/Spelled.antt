@@ -14,11 +14,7 @@ use Rattle.lines.specs.Calls.{line_of}
 use Rattle.lines.specs.Turns.{number_of}
 use Rattle.lines.specs.Replies.{reply_bytes}
 use Rattle.promise.specs.Promise.{house}
-use Rattle.clock.specs.declared.Heard.{Heard}
-use Rattle.clock.specs.declared.Heard.TheVariants.{Refused, Tells}
 use Rattle.clock.specs.declared.Asked.{Asked}
-use Rattle.clock.specs.declared.Said.{Said}
-use Rattle.clock.specs.declared.Said.TheVariants.{No, Yes}
 use Rattle.clock.specs.declared.Told.{Told}
 use Rattle.clock.specs.declared.Clock.{Clock}
 use Rattle.clock.specs.Clock.{Spoken, spoken, clock_code}
@@ -30,33 +26,21 @@ refusal_of k =
     (cond (k == 5) NotEmpty (cond (k == 4) Unexpected (cond (k == 3) Exists (cond (k == 2) Missing Wrong))))))))
 
 -- only telling the time is built, so nothing else is heard
-abbrev pub heard_call : meaning.Call → Heard
-heard_call (meaning.Tick t) = Tells t
-heard_call (meaning.MakeRoom n k) = Refused NotBuilt
-heard_call (meaning.DropRoom n) = Refused NotBuilt
-heard_call (meaning.Put n k bs x) = Refused NotBuilt
-heard_call (meaning.Get n k num from most) = Refused NotBuilt
-heard_call (meaning.Remove n k num) = Refused NotBuilt
-heard_call (meaning.Look n p a most) = Refused NotBuilt
-heard_call (meaning.Versions n k) = Refused NotBuilt
-heard_call (meaning.Begin n k) = Refused NotBuilt
-heard_call (meaning.PutPart n u p bs) = Refused NotBuilt
-heard_call (meaning.Complete n u x) = Refused NotBuilt
-heard_call (meaning.Abort n u) = Refused NotBuilt
-heard_call (meaning.Hold n k num until) = Refused NotBuilt
-heard_call (meaning.SetRules n rs) = Refused NotBuilt
+abbrev pub heard_call : meaning.Call → Result ℕ Refusal
+heard_call (meaning.Tick t) = Ok t
+heard_call c = Err NotBuilt
 
-abbrev pub heard_as : Result meaning.Call ℕ → Heard
-heard_as (Err k) = Refused (refusal_of k)
+abbrev pub heard_as : Result meaning.Call ℕ → Result ℕ Refusal
+heard_as (Err k) = Err (refusal_of k)
 heard_as (Ok c) = heard_call c
 
 -- no number was given yet, so the next is 1
 abbrev pub asked_in : (longest : ℕ) → List ℕ → (time : ℕ) → Asked
 asked_in longest l time = record { tag = tag_of l; heard = heard_as (heard only_time longest l time 1) }
 
-abbrev pub reply_of : Said → meaning.Reply
-reply_of (No why) = meaning.No (number_of why)
-reply_of Yes = meaning.Yes
+abbrev pub reply_of : Result Unit Refusal → meaning.Reply
+reply_of (Err why) = meaning.No (number_of why)
+reply_of (Ok ok) = meaning.Yes
 
 unfoldable pub told_bytes : Told → List ℕ
 told_bytes x = line_of x.tag (reply_bytes (reply_of x.said))

@@ -2,52 +2,40 @@
 #![tactic(auto)]
 
 ghost use Rattle.std.specs.Prelude.{◌≡◌, None, true, false, refl};
-ghost use Rattle.clock.specs.Clock.{clock_code, spoken, ClockSame, turn_in};
+ghost use Rattle.clock.specs.Clock.{clock_code, spoken, time_kept, ClockSame};
 ghost use Rattle.clock.specs.Spelled.{ClockKeeps};
 ghost use Rattle.clock.specs.Planned.{TellsSo, planned_so};
 ghost use Rattle.steps.specs.Stacks.{Plans};
 
 use lines::order::Refusal;
 use register::{Call, Payload, Reply};
-use steps::Next;
 use steps::layers::Planner;
 
-// What was heard of a line: why it is turned away, or the time that it tells.
-#[derive(Clone, Copy)]
-pub enum Heard {
-    Refused(Refusal),
-    Tells(u64),
-}
-
-#[derive(Clone, Copy)]
+// A line that came in: the time that it tells, or why it is turned away.
+#[derive(Clone, Copy, PartialEq, Eq)]
 pub struct Asked {
     pub tag: u32,
-    pub heard: Heard,
+    pub heard: Result<u64, Refusal>,
 }
 
-#[derive(Clone, Copy)]
-pub enum Said {
-    No(Refusal),
-    Yes,
-}
-
-#[derive(Clone, Copy)]
+// The answer to a line: that it was done, or why it is turned away.
+#[derive(Clone, Copy, PartialEq, Eq)]
 pub struct Told {
     pub tag: u32,
-    pub said: Said,
+    pub said: Result<(), Refusal>,
 }
 
 // What the clock is at.
-#[derive(Clone, Copy)]
+#[derive(Clone, Copy, PartialEq, Eq)]
 pub enum Phase {
     Rising,
     Getting,
-    Begun(Heard),
+    Begun(Result<u64, Refusal>),
     Setting(u64),
-    Over(Said),
+    Over(Result<(), Refusal>),
 }
 
-#[derive(Clone, Copy)]
+#[derive(Clone, Copy, PartialEq, Eq)]
 pub struct Clock {
     // the time that was last told, in ms; 0 for none
     pub time: u64,
@@ -92,40 +80,36 @@ impl Planner for Clock {
         self.phase = Phase::Begun(c.heard);
     }
 
-    fn turn(&mut self, reply: Option<Reply>) -> Next<Call>
+    fn turn(&mut self, reply: Option<Reply>) -> Option<Call>
         ensures { record { me = self.new; next = result } ≡ clock_code.turns self.old reply }
     {
-        match self.phase {
-            Phase::Rising => {
-                self.phase = Phase::Getting;
-                Next::Call(Call::Get)
-            }
+        let (phase, call) = match self.phase {
+            Phase::Rising => (Phase::Getting, Some(Call::Get)),
             Phase::Getting => {
                 self.time = match reply {
                     Some(Reply::Is(p)) => p.time,
                     _ => 0,
                 };
-                self.phase = Phase::Over(Said::Yes);
-                Next::Ready
+                (Phase::Over(Ok(())), None)
             }
-            Phase::Begun(Heard::Refused(why)) => {
-                self.phase = Phase::Over(Said::No(why));
-                Next::Ready
-            }
-            Phase::Begun(Heard::Tells(ms)) => self.tell(ms),
+            Phase::Begun(heard) => match self.kept(heard) {
+                Ok(time) => (Phase::Setting(time), Some(Call::Set(Payload { time }))),
+                Err(why) => (Phase::Over(Err(why)), None),
+            },
             Phase::Setting(time) => {
                 self.time = time;
-                self.phase = Phase::Over(Said::Yes);
-                Next::Ready
+                (Phase::Over(Ok(())), None)
             }
-            Phase::Over(_) => Next::Ready,
-        }
+            over @ Phase::Over(_) => (over, None),
+        };
+        self.phase = phase;
+        call
     }
 
     fn reply(&self) -> Told {
         let said = match self.phase {
             Phase::Over(said) => said,
-            _ => Said::Yes,
+            _ => Ok(()),
         };
         Told {
             tag: self.tag,
@@ -135,17 +119,15 @@ impl Planner for Clock {
 }
 
 impl Clock {
-    // A time in range is kept, if it is later.
-    fn tell(&mut self, ms: u64) -> Next<Call>
-        ensures { record { me = self.new; next = result } ≡ turn_in (Phase.Begun (Heard.Tells ms)) self.old.time self.old.tag None }
+    // The time to be kept once this was heard: one in range, if it is later.
+    fn kept(&self, heard: Result<u64, Refusal>) -> Result<u64, Refusal>
+        ensures { result ≡ time_kept heard self.now.time }
     {
+        let ms = heard?;
         if ms < 1 << 62 && 0 < ms {
-            let time = self.time.max(ms);
-            self.phase = Phase::Setting(time);
-            Next::Call(Call::Set(Payload { time }))
+            Ok(self.time.max(ms))
         } else {
-            self.phase = Phase::Over(Said::No(Refusal::Wrong));
-            Next::Ready
+            Err(Refusal::Wrong)
         }
     }
 }

@@ -22,11 +22,8 @@ step_in Syncing s lent got = goes s (Over true) lent Done
 step_in (Over ok) s lent got = goes s (Over ok) lent Done
 
 abbrev pub said_in : Phase → Bool
-said_in Begun = false
-said_in Reading = false
-said_in Writing = false
-said_in Syncing = false
 said_in (Over ok) = ok
+said_in p = false
 
 abbrev pub echo_code : Stepping ℕ Bool Echo
 echo_code =

@@ -1,30 +1,23 @@
 -- A layer that copies a sector, and then another where that could be done: what its code does, and the same to be read.
 -- Assumes nothing.
-use Rattle.std.specs.Prelude.{ℕ, Bool, false, cond, Some, None, Option}
+use Rattle.std.specs.Prelude.{ℕ, Bool, false, cond, Some, None, unwrap_or}
 use Rattle.drives.specs.Layers.{Layer, gives, asks}
 use Rattle.steps.specs.Stacks.{Asked, Planning}
-use Rattle.steps.specs.declared.Next.TheVariants.{Call, Ready}
 use Rattle.echo.specs.declared.Twice.{Twice}
 use Rattle.echo.specs.declared.Twice.TheVariants.{Begun, First, Second, Over}
 
-abbrev pub yes : Option Bool → Bool
-yes None = false
-yes (Some ok) = ok
-
 abbrev pub turn_in : Twice → Bool → Asked Twice ℕ
-turn_in (Begun s) ok = record { me = First; next = Call s }
-turn_in First ok = cond ok (record { me = Second; next = Call 7 }) (record { me = Over false; next = Ready })
-turn_in Second ok = record { me = Over ok; next = Ready }
-turn_in (Over was) ok = record { me = Over was; next = Ready }
+turn_in (Begun s) ok = record { me = First; next = Some s }
+turn_in First ok = cond ok (record { me = Second; next = Some 7 }) (record { me = Over false; next = None })
+turn_in Second ok = record { me = Over ok; next = None }
+turn_in (Over was) ok = record { me = Over was; next = None }
 
 abbrev pub said_in : Twice → Bool
-said_in (Begun s) = false
-said_in First = false
-said_in Second = false
 said_in (Over ok) = ok
+said_in t = false
 
 abbrev pub twice_code : Planning ℕ Bool ℕ Bool Twice
-twice_code = record { turns = λ t r. turn_in t (yes r); rising = λ size. Over false; starts = λ c t. Begun c; says = said_in }
+twice_code = record { turns = λ t r. turn_in t (unwrap_or r false); rising = λ size. Over false; starts = λ c t. Begun c; says = said_in }
 
 -- THE LAYER, to be read
 abbrev pub twices : Layer ℕ Bool ℕ Bool

@@ -13,9 +13,10 @@ ghost use Rattle.echo.specs.Tied.{echo_tied, twice_planned};
 use driver::Disks;
 use steps::layers::Planner;
 use steps::machines::Stepper;
-use steps::{Ask, Lent, Next, Stack};
+use steps::{Ask, Lent, Stack};
 
-#[derive(Clone, Copy)]
+// What an echo is at.
+#[derive(Clone, Copy, PartialEq, Eq)]
 pub enum Phase {
     Begun,
     Reading,
@@ -24,7 +25,8 @@ pub enum Phase {
     Over { ok: bool },
 }
 
-#[derive(Clone, Copy)]
+// Copies one sector, and answers whether that could be done.
+#[derive(Clone, Copy, PartialEq, Eq)]
 pub struct Echo {
     pub sector: u64,
     pub phase: Phase,
@@ -70,45 +72,31 @@ impl Stepper for Echo {
     }
 
     fn step(&mut self, lent: &mut Lent, got: &[u8]) -> Ask {
-        match self.phase {
-            Phase::Begun => {
-                self.phase = Phase::Reading;
-                Ask::Read {
-                    drive: 0,
-                    sector: self.sector,
-                }
-            }
-            Phase::Reading => {
-                if got.len() == 512 {
-                    lent.place(0, got);
-                    self.phase = Phase::Writing;
+        let sector = self.sector;
+        let (phase, ask) = match self.phase {
+            Phase::Begun => (Phase::Reading, Ask::Read { drive: 0, sector }),
+            Phase::Reading if got.len() == 512 => {
+                lent.place(0, got);
+                (
+                    Phase::Writing,
                     Ask::Write {
                         drive: 1,
-                        sector: self.sector,
+                        sector,
                         at: 0,
-                    }
-                } else {
-                    self.phase = Phase::Over { ok: false };
-                    Ask::Done
-                }
+                    },
+                )
             }
-            Phase::Writing => {
-                self.phase = Phase::Syncing;
-                Ask::Sync { drive: 1 }
-            }
-            Phase::Syncing => {
-                self.phase = Phase::Over { ok: true };
-                Ask::Done
-            }
-            Phase::Over { ok: _ } => Ask::Done,
-        }
+            Phase::Reading => (Phase::Over { ok: false }, Ask::Done),
+            Phase::Writing => (Phase::Syncing, Ask::Sync { drive: 1 }),
+            Phase::Syncing => (Phase::Over { ok: true }, Ask::Done),
+            over @ Phase::Over { .. } => (over, Ask::Done),
+        };
+        self.phase = phase;
+        ask
     }
 
     fn reply(&self) -> bool {
-        match self.phase {
-            Phase::Over { ok } => ok,
-            _ => false,
-        }
+        matches!(self.phase, Phase::Over { ok: true })
     }
 
     fn is_whole(&self) -> bool {
@@ -116,7 +104,8 @@ impl Stepper for Echo {
     }
 }
 
-#[derive(Clone, Copy)]
+// Copies a sector, and then sector 7 where that could be done; answers whether both could.
+#[derive(Clone, Copy, PartialEq, Eq)]
 pub enum Twice {
     Begun { sector: u64 },
     First,
@@ -155,37 +144,23 @@ impl Planner for Twice {
         *self = Twice::Begun { sector: c };
     }
 
-    fn turn(&mut self, reply: Option<bool>) -> Next<u64>
+    // the check wants the clause of the trait written out here
+    fn turn(&mut self, reply: Option<bool>) -> Option<u64>
         ensures { record { me = self.new; next = result } ≡ twice_code.turns self.old reply }
     {
         let ok = reply.unwrap_or(false);
-        match *self {
-            Twice::Begun { sector } => {
-                *self = Twice::First;
-                Next::Call(sector)
-            }
-            Twice::First => {
-                if ok {
-                    *self = Twice::Second;
-                    Next::Call(7)
-                } else {
-                    *self = Twice::Over { ok: false };
-                    Next::Ready
-                }
-            }
-            Twice::Second => {
-                *self = Twice::Over { ok };
-                Next::Ready
-            }
-            Twice::Over { ok: _ } => Next::Ready,
-        }
+        let (next, call) = match *self {
+            Twice::Begun { sector } => (Twice::First, Some(sector)),
+            Twice::First if ok => (Twice::Second, Some(7)),
+            Twice::First | Twice::Second => (Twice::Over { ok }, None),
+            over @ Twice::Over { .. } => (over, None),
+        };
+        *self = next;
+        call
     }
 
     fn reply(&self) -> bool {
-        match *self {
-            Twice::Over { ok } => ok,
-            _ => false,
-        }
+        matches!(*self, Twice::Over { ok: true })
     }
 }
 

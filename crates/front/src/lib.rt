@@ -11,7 +11,7 @@ ghost use Rattle.answers.specs.Says.{says, fits};
 ghost use Rattle.front.specs.Fronts.{Answered, LineDone};
 
 use answers::{Answer, write_answer};
-use clock::{Asked, Clock, Heard, Phase, Said, Told};
+use clock::{Asked, Clock, Phase, Told};
 use driver::Disks;
 use lines::calls::Call;
 use lines::order::{Built, Refusal, tag_of, turned_away};
@@ -23,24 +23,24 @@ use steps::{Doing, Lent, Stack};
 fn hear(line: &[u8], longest: usize, time: u64) -> Asked
     ensures { result ≡ asked_in longest line.now time }
 {
-    let heard = match turned_away(line, Built::Time, longest, time, 1) {
-        Ok(Call::Time { ms }) => Heard::Tells(ms),
-        Ok(_) => Heard::Refused(Refusal::NotBuilt),
-        Err(why) => Heard::Refused(why),
-    };
+    let call = turned_away(line, Built::Time, longest, time, 1);
+    let heard = call.and_then(|call| match call {
+        Call::Time { ms } => Ok(ms),
+        _ => Err(Refusal::NotBuilt),
+    });
     Asked {
         tag: tag_of(line),
         heard,
     }
 }
 
-fn answer_of(said: Said) -> Answer<'static>
+fn answer_of(said: Result<(), Refusal>) -> Answer<'static>
     ensures says { says result ≡ reply_of said }
     ensures fits { fits result ≡ true }
 {
     match said {
-        Said::No(why) => Answer::No(why),
-        Said::Yes => Answer::Yes,
+        Ok(()) => Answer::Yes,
+        Err(why) => Answer::No(why),
     }
 }
 

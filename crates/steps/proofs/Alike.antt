@@ -1,6 +1,6 @@
 -- Two programs that ask for the same and end alike: what one does on drives, the other does.
 -- Assumes nothing.
-use Rattle.std.proofs.Common.{◌≡◌, ℕ, zero, suc, ◌+◌, ◌≤◌, List, refl, ap, subst, arith}
+use Rattle.std.proofs.Common.{◌≡◌, ℕ, zero, suc, ◌+◌, ◌≤◌, List, refl, ap, arith}
 use Rattle.drives.specs.Drives.{Drives, Io, Ran, run, Upto, Fair, ops_of, then', shown}
 use Rattle.steps.specs.Steps.{Held, Stepped, runs}
 use Rattle.steps.specs.Ties.{Goes}
@@ -15,9 +15,6 @@ pub record Same {A B : Type 0} (S : A → B → Type 0) (x : Ran A) (y : Ran B) 
   pub values : S x.value y.value
   pub drives : y.drives ≡ x.drives
 
-writes_same : {A B : Type 0} {S : A → B → Type 0} {i s : ℕ} {b c : List ℕ} {p : Io A} {q : Io B} → b ≡ c → Alike S p q → Alike S (Io.write i s b p) (Io.write i s c q)
-writes_same {S = S} {i = i} {s = s} {b = b} {p = p} {q = q} e x = subst (λ z. Alike S (Io.write i s b p) (Io.write i s z q)) e (Alike.writes x)
-
 -- with any budget that is enough, steps are what they go to
 pub goes_runs : {M A : Type 0} {f : Held M → List ℕ → Stepped M} {S : Held M → A → Type 0} {n : ℕ} {x : Stepped M} {p : Io A} → Goes f S n x p → (b : ℕ) → n ≤ b → Alike S (runs f b x) p
 unfolding runs
@@ -26,7 +23,7 @@ goes_runs (Goes.ends s) (suc b) h = Alike.answers s
 goes_runs (Goes.reads k) zero h = absurd (omega arith)
 goes_runs (Goes.reads k) (suc b) h = Alike.reads (λ got. goes_runs (k got) b (omega arith))
 goes_runs (Goes.writes e g) zero h = absurd (omega arith)
-goes_runs (Goes.writes e g) (suc b) h = writes_same e (goes_runs g b (omega arith))
+goes_runs (Goes.writes e g) (suc b) h = rw e (Alike.writes (goes_runs g b (omega arith)))
 goes_runs (Goes.syncs g) zero h = absurd (omega arith)
 goes_runs (Goes.syncs g) (suc b) h = Alike.syncs (goes_runs g b (omega arith))
 goes_runs (Goes.again g) zero h = absurd (omega arith)

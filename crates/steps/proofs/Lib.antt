@@ -1,4 +1,3 @@
 pub mod Alike
 pub mod Mirror
-pub mod Turns
 pub mod Lents

@@ -1,9 +1,8 @@
 -- Whatever can happen to a machine in code can happen to the readable machine that it is tied to.
 -- Assumes nothing.
-use Rattle.std.proofs.Common.{◌≡◌, ℕ, ◌≤◌, Bool, List, ◌∷◌, subst}
-use mathlib.Core.Path.{subst⁻¹}
+use Rattle.std.proofs.Common.{◌≡◌, ℕ, ◌≤◌, Bool, List, ◌∷◌}
 use Rattle.drives.specs.Drives.{Drives, Ran}
-use Rattle.drives.specs.Machines.{Machine, Event, World, Trace, Judge, longest, weak_after}
+use Rattle.drives.specs.Machines.{Machine, Event, World, Trace, Judge, weak_after}
 use Rattle.steps.specs.Steps.{Held, Stepping, machine_of}
 use Rattle.steps.specs.Ties.{Tied, TiedAll, CodeKeeps, CodeWithin}
 use Rattle.steps.proofs.Alike.{Alike, Same, goes_runs, alike_map, alike_run, alike_upto, alike_fair, alike_ops}
@@ -33,23 +32,17 @@ module _ {C R : Type 0} {e r : Machine C R} {size : ℕ} {S : e.Mem → r.Mem �
   somewhere (Seen.ons s x) = (_, x)
 
   at_opened : {es : List (Event C R)} {ws : List ℕ} (x : Ran e.Mem) (y : Ran r.Mem) → Same S x y → Trace r size es ws (World.on y.value y.drives) → Seen es ws (World.on x.value x.drives)
-  at_opened {es} {ws} x y s z = Seen.ons s.values (subst (λ d. Trace r size es ws (World.on y.value d)) s.drives z)
+  at_opened x y s z = Seen.ons s.values (rw (← s.drives) z)
 
   at_answered : {es : List (Event C R)} {ws : List ℕ} (c : C) (x : Ran (record { reply : R; mem : e.Mem })) (y : Ran (record { reply : R; mem : r.Mem })) →
       Same (λ x y. (x.reply ≡ y.reply) × S x.mem y.mem) x y → Trace r size (Event.called c y.value.reply ∷ es) ws (World.on y.value.mem y.drives) →
       Seen (Event.called c x.value.reply ∷ es) ws (World.on x.value.mem x.drives)
-  at_answered {es} {ws} c x y s z =
-      Seen.ons s.values.1
-      (subst (λ d. Trace r size (Event.called c x.value.reply ∷ es) ws (World.on y.value.mem d)) s.drives
-      (subst⁻¹ (λ k. Trace r size (Event.called c k ∷ es) ws (World.on y.value.mem y.drives)) s.values.0 z))
+  at_answered c x y s z = Seen.ons s.values.1 (rw (s.values.0, ← s.drives) z)
 
   at_mended : {es : List (Event C R)} (ws : List ℕ) (x : Ran (record { whole : Bool; mem : e.Mem })) (y : Ran (record { whole : Bool; mem : r.Mem })) →
       Same (λ x y. (x.whole ≡ y.whole) × S x.mem y.mem) x y → Trace r size (Event.mended y.value.whole ∷ es) (weak_after y.value.whole y.drives ws) (World.on y.value.mem y.drives) →
       Seen (Event.mended x.value.whole ∷ es) (weak_after x.value.whole x.drives ws) (World.on x.value.mem x.drives)
-  at_mended {es} ws x y s z =
-      Seen.ons s.values.1
-      (subst (λ d. Trace r size (Event.mended x.value.whole ∷ es) (weak_after x.value.whole d ws) (World.on y.value.mem d)) s.drives
-      (subst⁻¹ (λ w. Trace r size (Event.mended w ∷ es) (weak_after w y.drives ws) (World.on y.value.mem y.drives)) s.values.0 z))
+  at_mended ws x y s z = Seen.ons s.values.1 (rw (s.values.0, ← s.drives) z)
 
   seen : {es : List (Event C R)} {ws : List ℕ} {w : World e} → Trace e size es ws w → Seen es ws w
   seen Trace.begin = Seen.offs Trace.begin
@@ -81,7 +74,7 @@ module _ {C R M : Type 0} {s : Stepping C R M} {n : ℕ} {e : Machine C R} {S : 
               let w = (k size lo hi es ws).1 _ d x in (
                 λ c. alike_fair (m.does c _ _ s) (w.0 c),
                 alike_fair (m.mends _ _ s) w.1,
-                subst⁻¹ (λ o. o ≤ longest) (alike_ops (m.mends _ _ s) d) w.2,
+                rw (alike_ops (m.mends _ _ s) d) w.2,
               )
         ],
       )

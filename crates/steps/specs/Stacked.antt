@@ -1,7 +1,6 @@
 -- The steps of a layer in code over a machine in code are the readable layer over the readable machine.
 -- Assumes nothing.
 use Rattle.std.specs.Prelude.{◌≡◌, ℕ, suc, ◌+◌, ◌*◌, List, [], refl}
-use Rattle.std.proofs.Math.Path.{subst, subst⁻¹}
 use Rattle.std.proofs.Math.Nat.{suc-mul}
 use Rattle.std.proofs.Common.{arith}
 use Rattle.drives.specs.Drives.{Io, then'}
@@ -47,10 +46,8 @@ module _ {U L C R C' R' : Type 0} (p : Planning C R C' R' U) (s : Stepping C R L
     above (Plans.calls {n = k} {me = u} {c = c} {k = q} x) l lent m st =
         let i = suc-mul k (n + 1) in
         later {m = suc (n + (k * (n + 1) + 1))}
-        (Goes.again (subst⁻¹ (Goes steps Z _ _) (then_then (e.does c m) (λ z. through e (q z.reply) z.mem) g)
-        (below (k * (n + 1) + 1) Waits u (λ l lent got. refl) _ (t.does c _ m st) (λ h z r.
-        subst (λ w. Goes steps Z (k * (n + 1) + 1) (on_done p s Waits u h.me h.lent) (then' (through e (q w) z.mem) g)) r.0
-        (above (x (s.says h.me)) h.me h.lent z.mem r.1)))))
+        (Goes.again (rw (then_then (e.does c m) _ g)
+        (below (k * (n + 1) + 1) Waits u (λ l lent got. refl) _ (t.does c _ m st) (λ h z r. rw (← r.0) (above (x (s.says h.me)) h.me h.lent z.mem r.1)))))
         (omega arith)
 
 -- THE STACK: the code of both is the readable layer over the readable machine

@@ -7,16 +7,14 @@ use Rattle.steps.specs.Steps.{Held, Stepped, Stepping}
 use Rattle.steps.specs.declared.Lent.{Lent}
 use Rattle.steps.specs.declared.Ask.{Ask}
 use Rattle.steps.specs.declared.Ask.TheVariants.{Read, Write, Sync, Again, Done}
-use Rattle.steps.specs.declared.Next.{Next}
-use Rattle.steps.specs.declared.Next.TheVariants.{Call, Ready}
 use Rattle.steps.specs.declared.Doing.{Doing}
 use Rattle.steps.specs.declared.Doing.TheVariants.{Opens, Begun, Waits, Mends}
 use Rattle.steps.specs.declared.Stack.{Stack}
 
--- the state of a layer, with what it wants of the machine below
+-- the state of a layer, with the next call of the machine below, none where it is done
 pub record Asked (U C : Type 0) : Type 0 where
   pub me : U
-  pub next : Next C
+  pub next : Option C
 
 -- What the code of a layer does, function by function, to a state U. It answers calls C' by replies R', through calls C that are answered by R.
 -- A turn gets what the last call below was answered, and nothing at first.
@@ -27,9 +25,9 @@ pub record Planning (C R C' R' U : Type 0) : Type 0 where
   pub says : U → R'
 
 module _ {U L C R C' R' : Type 0} (p : Planning C R C' R' U) (s : Stepping C R L) where
-  abbrev pub goes_on : Next C → U → L → Lent → Stepped (Stack U L)
-  goes_on (Call c) u l lent = record { me = record { upper = u; lower = s.starts c l; doing = Waits }; lent = lent; ask = Again }
-  goes_on Ready u l lent = record { me = record { upper = u; lower = l; doing = Waits }; lent = lent; ask = Done }
+  abbrev pub goes_on : Option C → U → L → Lent → Stepped (Stack U L)
+  goes_on (Some c) u l lent = record { me = record { upper = u; lower = s.starts c l; doing = Waits }; lent = lent; ask = Again }
+  goes_on None u l lent = record { me = record { upper = u; lower = l; doing = Waits }; lent = lent; ask = Done }
 
   -- a turn of the layer
   abbrev pub turn : Asked U C → L → Lent → Stepped (Stack U L)
@@ -73,8 +71,8 @@ module _ {U L C R C' R' : Type 0} (p : Planning C R C' R' U) (s : Stepping C R L
 
 -- Plans f T n y q: from what was asked in y on, the turns f ask for just what the plan q does, come to their end within n turns, and end at a state that T ties to what q gives.
 pub data Plans {C R U A : Type 0} (f : U → Option R → Asked U C) (T : U → A → Type 0) : ℕ → Asked U C → Plan C R A → Type 0 where
-  ends : {n : ℕ} {me : U} {a : A} → T me a → Plans f T (suc n) (record { me = me; next = Ready }) (gives a)
-  calls : {n : ℕ} {me : U} {c : C} {k : R → Plan C R A} → ((r : R) → Plans f T n (f me (Some r)) (k r)) → Plans f T (suc n) (record { me = me; next = Call c }) (asks c k)
+  ends : {n : ℕ} {me : U} {a : A} → T me a → Plans f T (suc n) (record { me = me; next = None }) (gives a)
+  calls : {n : ℕ} {me : U} {c : C} {k : R → Plan C R A} → ((r : R) → Plans f T n (f me (Some r)) (k r)) → Plans f T (suc n) (record { me = me; next = Some c }) (asks c k)
 
 -- The code p is the readable layer l on drives of a size, where n turns are enough for whatever it is asked. T says which state of the code stands for which memory of l between calls.
 pub record Planned {C R C' R' U : Type 0} (p : Planning C R C' R' U) (n size : ℕ) (l : Layer C R C' R') (T : U → l.Mem → Type 0) : Type 0 where

@@ -7,9 +7,9 @@ ghost use Rattle.steps.specs.Stacks.{Asked, Planning, PlannedAll, stack_of, Both
 ghost use Rattle.steps.specs.Stacked.{stacked};
 
 use super::machines::Stepper;
-use super::{Ask, Doing, Lent, Next, Stack};
+use super::{Ask, Doing, Lent, Stack};
 
-// A layer asks the machine below it, call by call, and has no drives and no lent memory.
+// A layer asks the machine below it, call by call, and has no drives and no lent memory. What it is at between two turns is an enum of phases, as in a machine.
 pub trait Planner {
     // what it asks below, and how it is answered
     type Call;
@@ -45,8 +45,8 @@ pub trait Planner {
     fn begin(&mut self, c: Self::Outer)
         ensures { view self.new ≡ code.starts c (view self.old) };
 
-    // One turn of what was begun: `reply` is what the last call below was answered, and nothing at first.
-    fn turn(&mut self, reply: Option<Self::Reply>) -> Next<Self::Call>
+    // One turn of what was begun: `reply` is what the last call below was answered, and nothing at first. It gives the next call below, and none when it is done.
+    fn turn(&mut self, reply: Option<Self::Reply>) -> Option<Self::Call>
         ensures { record { me = view self.new; next = result } ≡ code.turns (view self.old) reply };
 
     // What the call that is done comes to.
@@ -96,31 +96,24 @@ impl<U: Planner<Call = L::Call, Reply = L::Reply>, L: Stepper> Stepper for Stack
     }
 
     fn step(&mut self, lent: &mut Lent, got: &[u8]) -> Ask {
-        let reply = match self.doing {
-            Doing::Begun => None,
-            Doing::Opens => match self.lower.step(lent, got) {
-                Ask::Done => None,
-                other => {
-                    return other;
-                }
-            },
-            Doing::Waits => match self.lower.step(lent, got) {
-                Ask::Done => Some(self.lower.reply()),
-                other => {
-                    return other;
-                }
-            },
-            Doing::Mends => {
-                return self.lower.step(lent, got);
+        // the layer has its turn once the machine below is done
+        if self.doing != Doing::Begun {
+            let ask = self.lower.step(lent, got);
+            if ask != Ask::Done || self.doing == Doing::Mends {
+                return ask;
             }
+        }
+        let reply = match self.doing {
+            Doing::Waits => Some(self.lower.reply()),
+            _ => None,
         };
         self.doing = Doing::Waits;
         match self.upper.turn(reply) {
-            Next::Call(c) => {
+            Some(c) => {
                 self.lower.begin(c);
                 Ask::Again
             }
-            Next::Ready => Ask::Done,
+            None => Ask::Done,
         }
     }
 

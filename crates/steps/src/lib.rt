@@ -43,7 +43,7 @@ impl Lent {
 }
 
 // What a step asks for. A sector that is written is the 512 lent bytes from `at` on, or the last ones.
-#[derive(Clone, Copy)]
+#[derive(Clone, Copy, PartialEq, Eq)]
 pub enum Ask {
     Read { drive: u8, sector: u64 },
     Write { drive: u8, sector: u64, at: usize },
@@ -52,15 +52,8 @@ pub enum Ask {
     Done,
 }
 
-// What a layer wants of the machine below it.
-#[derive(Drop)]
-pub enum Next<C> {
-    Call(C),
-    Ready,
-}
-
 // What a stack is at: the lower machine comes up; a call was begun; the lower machine answers a call of the upper one; it mends.
-#[derive(Clone, Copy)]
+#[derive(Clone, Copy, PartialEq, Eq)]
 pub enum Doing {
     Opens,
     Begun,

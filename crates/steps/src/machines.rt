@@ -6,6 +6,7 @@ ghost use Rattle.steps.specs.Ties.{TiedAll, CodeKeeps, CodeWithin};
 
 use super::{Ask, Lent};
 
+// A machine takes one step at a time. What it is at between two steps is an enum of phases, since a step that is kept as a closure would have to be boxed and handed out.
 pub trait Stepper {
     type Call;
 
