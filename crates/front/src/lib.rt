@@ -33,6 +33,7 @@ fn hear(line: &[u8], longest: usize, time: u64) -> Asked
     }
 }
 
+// No `From`: both types are other crates'.
 fn answer_of(said: Said) -> Answer<'static>
     ensures says { says result ≡ reply_of said }
     ensures fits { fits result ≡ true }
