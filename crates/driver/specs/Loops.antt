@@ -2,10 +2,15 @@
 -- Assumes nothing.
 use Rattle.std.specs.Prelude.{◌≡◌, ℕ, List, []}
 use Rattle.drives.specs.Drives.{Drives, shown, put, written_to, synced_one, Io, run}
-use Rattle.steps.specs.Steps.{sector_at}
+use Rattle.steps.specs.Steps.{Held, sector_at}
 use Rattle.steps.specs.declared.Lent.{Lent}
 use Rattle.steps.specs.declared.Ask.{Ask}
 use Rattle.steps.specs.declared.Ask.TheVariants.{Read, Write, Sync, Again, Done}
+use Rattle.driver.specs.declared.Running.{Running}
+
+-- what a running machine holds, where `view` says what state it is in
+abbrev pub held_by : {A M : Type 0} → (A → M) → Running A → Held M
+held_by view r = record { me = view r.machine; lent = r.lent }
 
 -- what a request gave, and the drives after it
 pub record Performed : Type 0 where

@@ -1,11 +1,12 @@
 // The one loop that runs a machine in code on drives, be they files or simulated.
 #![tactic(auto)]
 
-ghost use Rattle.std.specs.Prelude.{◌≡◌, ℕ, ◌≤◌, List, [], take, if◌then◌else◌};
+ghost use Rattle.std.specs.Prelude.{◌≡◌, ℕ, ◌≤◌, [], unwrap_or};
 ghost use Rattle.drives.specs.Drives.{Drives, shown, put, written_to, synced_one, smallest, largest};
 ghost use Rattle.drives.specs.Machines.{Machine};
-ghost use Rattle.steps.specs.Steps.{Held, Stepped, first, runs, machine_of};
-ghost use Rattle.driver.specs.Loops.{Performed, performed, Leaves, Ends};
+ghost use Rattle.steps.specs.Steps.{Stepped, unused, first, runs, machine_of};
+ghost use Rattle.driver.specs.Known.{WhereKnown};
+ghost use Rattle.driver.specs.Loops.{held_by, Performed, performed, Leaves, Ends};
 
 use steps::machines::Stepper;
 use steps::{Ask, Lent};
@@ -16,86 +17,103 @@ pub trait Disks {
 
     ghost known: { Self → Type 0 };
 
-    // Says whether there was a sector to be read.
-    fn read(&mut self, drive: u8, sector: u64, into: &mut [u8; 512]) -> bool
-        ensures { known self.old → known self.new × (model self.new ≡ model self.old) × ((if result then into.new else []) ≡ shown (model self.old drive) sector) };
+    // What the sector holds; nothing where there is no sector to be read.
+    fn read(&mut self, drive: u8, sector: u64) -> Option<[u8; 512]>
+        ensures { WhereKnown known model self.old self.new (λ d e. (e ≡ d) × (unwrap_or result [] ≡ shown (d drive) sector)) };
 
     fn write(&mut self, drive: u8, sector: u64, bytes: &[u8; 512])
-        ensures { known self.old → known self.new × (model self.new ≡ put drive (written_to sector bytes.now (model self.old drive)) (model self.old)) };
+        ensures { WhereKnown known model self.old self.new (λ d e. e ≡ put drive (written_to sector bytes.now (d drive)) d) };
 
     fn sync(&mut self, drive: u8)
-        ensures { known self.old → known self.new × (model self.new ≡ put drive (synced_one (model self.old drive)) (model self.old)) };
+        ensures { WhereKnown known model self.old self.new (λ d e. e ≡ put drive (synced_one (d drive)) d) };
 }
 
-// Carries out what a step asks for; says how much of `sec` was read.
-fn perform<D: Disks>(ask: Ask, lent: &Lent, d: &mut D, sec: &mut [u8; 512]) -> usize
-    ensures few { result ≤ 512 }
-    ensures does { D.Disks.known d.old → D.Disks.known d.new × (record { got = take result sec.new; drives = D.Disks.model d.new } ≡ performed ask lent.now (D.Disks.model d.old)) }
+// Carries out what a step asks for; says what was read.
+fn perform<D: Disks>(ask: Ask, lent: &Lent, disks: &mut D) -> Option<[u8; 512]>
+    ensures { WhereKnown D.Disks.known D.Disks.model disks.old disks.new (λ d e. record { got = unwrap_or result []; drives = e } ≡ performed ask lent.now d) }
 {
     match ask {
-        Ask::Read { drive, sector } => { if d.read(drive, sector, sec) { 512 } else { 0 } }
+        Ask::Read { drive, sector } => disks.read(drive, sector),
         Ask::Write { drive, sector, at } => {
-            d.write(drive, sector, &lent.sector(at));
-            0
+            disks.write(drive, sector, &lent.sector(at));
+            None
         }
         Ask::Sync { drive } => {
-            d.sync(drive);
-            0
+            disks.sync(drive);
+            None
         }
-        Ask::Again => 0,
-        Ask::Done => 0,
+        Ask::Again | Ask::Done => None,
     }
 }
 
-// Runs the steps of what was begun, with at most `most` requests.
-fn finish<M: Stepper, D: Disks>(m: &mut M, lent: &mut Lent, d: &mut D, most: u64)
-    ensures { D.Disks.known d.old → D.Disks.known d.new × Leaves (runs M.Stepper.code.steps most (first M.Stepper.code (M.Stepper.view m.old) lent.old)) (D.Disks.model d.old) (record { me = M.Stepper.view m.new; lent = lent.new }) (D.Disks.model d.new) }
-{
-    let mut sec = [0u8; 512];
-    let mut ask = m.step(lent, &sec[0..0]);
-    let mut left = most;
-    while left > 0 {
-        if let Ask::Done = ask {
-            return;
+// A machine in code, with the memory that is lent to it.
+#[derive(Drop)]
+pub struct Running<M> {
+    pub machine: M,
+    pub lent: Lent,
+}
+
+impl<M: Stepper> Running<M> {
+    pub fn new(machine: M) -> Running<M>
+        ensures { result ≡ record { machine = machine; lent = unused } }
+    {
+        Running {
+            machine,
+            lent: Lent::new(),
         }
-        left -= 1;
-        let n = perform(ask, lent, d, &mut sec);
-        ask = m.step(lent, &sec[0..n]);
     }
-}
 
-// Comes up on drives of a size.
-pub fn open<M: Stepper, D: Disks>(m: &mut M, lent: &mut Lent, d: &mut D, size: u64, most: u64)
-    ensures code { D.Disks.known d.old → D.Disks.known d.new × Leaves ((machine_of M.Stepper.code most).opens size) (D.Disks.model d.old) (record { me = M.Stepper.view m.new; lent = lent.new }) (D.Disks.model d.new) }
-    ensures read { D.Disks.known d.old → smallest ≤ size → size ≤ largest → M.Stepper.most ≤ most → Ends (M.Stepper.same size (record { me = M.Stepper.view m.new; lent = lent.new })) (M.Stepper.machine.opens size) (D.Disks.model d.old) (D.Disks.model d.new) }
-{
-    lent.clear();
-    m.open(size);
-    finish(m, lent, d, most);
-}
+    // One step, with what the last request gave. A step takes bytes, none where nothing was read: so the readable machines speak of it, and an array would ask more of who calls it.
+    fn step(&mut self, got: Option<[u8; 512]>) -> Ask
+        ensures { record { me = M.Stepper.view self.new.machine; lent = self.new.lent; ask = result } ≡ M.Stepper.code.steps (held_by M.Stepper.view self.old) (unwrap_or got []) }
+    {
+        match got {
+            Some(bytes) => self.machine.step(&mut self.lent, &bytes),
+            None => self.machine.step(&mut self.lent, &[]),
+        }
+    }
 
-// Answers a call.
-pub fn call<M: Stepper, D: Disks>(
-    m: &mut M,
-    lent: &mut Lent,
-    d: &mut D,
-    c: M::Call,
-    most: u64,
-) -> M::Reply
-    ensures code { D.Disks.known d.old → D.Disks.known d.new × Leaves ((machine_of M.Stepper.code most).does c (record { me = M.Stepper.view m.old; lent = lent.old })) (D.Disks.model d.old) (record { reply = result; mem = record { me = M.Stepper.view m.new; lent = lent.new } }) (D.Disks.model d.new) }
-    ensures read { D.Disks.known d.old → (size : ℕ) (x : M.Stepper.machine.Mem) → smallest ≤ size → size ≤ largest → M.Stepper.most ≤ most → M.Stepper.same size (record { me = M.Stepper.view m.old; lent = lent.old }) x → Ends (λ y. (result ≡ y.reply) × M.Stepper.same size (record { me = M.Stepper.view m.new; lent = lent.new }) y.mem) (M.Stepper.machine.does c x) (D.Disks.model d.old) (D.Disks.model d.new) }
-{
-    m.begin(c);
-    finish(m, lent, d, most);
-    m.reply()
-}
+    // Runs the steps of what was begun, with at most `most` requests.
+    fn finish<D: Disks>(&mut self, disks: &mut D, most: u64)
+        ensures { WhereKnown D.Disks.known D.Disks.model disks.old disks.new (λ d e. Leaves (runs M.Stepper.code.steps most (first M.Stepper.code (M.Stepper.view self.old.machine) self.old.lent)) d (held_by M.Stepper.view self.new) e) }
+    {
+        let mut ask = self.step(None);
+        for _ in 0..most {
+            if let Ask::Done = ask {
+                return;
+            }
+            let got = perform(ask, &self.lent, disks);
+            ask = self.step(got);
+        }
+    }
 
-// Does one stretch of mending; says whether all is whole.
-pub fn mend<M: Stepper, D: Disks>(m: &mut M, lent: &mut Lent, d: &mut D, most: u64) -> bool
-    ensures code { D.Disks.known d.old → D.Disks.known d.new × Leaves ((machine_of M.Stepper.code most).mends (record { me = M.Stepper.view m.old; lent = lent.old })) (D.Disks.model d.old) (record { whole = result; mem = record { me = M.Stepper.view m.new; lent = lent.new } }) (D.Disks.model d.new) }
-    ensures read { D.Disks.known d.old → (size : ℕ) (x : M.Stepper.machine.Mem) → smallest ≤ size → size ≤ largest → M.Stepper.most ≤ most → M.Stepper.same size (record { me = M.Stepper.view m.old; lent = lent.old }) x → Ends (λ y. (result ≡ y.whole) × M.Stepper.same size (record { me = M.Stepper.view m.new; lent = lent.new }) y.mem) (M.Stepper.machine.mends x) (D.Disks.model d.old) (D.Disks.model d.new) }
-{
-    m.mend();
-    finish(m, lent, d, most);
-    m.is_whole()
+    // Comes up on drives of a size.
+    pub fn open<D: Disks>(&mut self, disks: &mut D, size: u64, most: u64)
+        ensures code { WhereKnown D.Disks.known D.Disks.model disks.old disks.new (λ d e. Leaves ((machine_of M.Stepper.code most).opens size) d (held_by M.Stepper.view self.new) e) }
+        ensures read { smallest ≤ size → size ≤ largest → M.Stepper.most ≤ most → WhereKnown D.Disks.known D.Disks.model disks.old disks.new (Ends (M.Stepper.same size (held_by M.Stepper.view self.new)) (M.Stepper.machine.opens size)) }
+    {
+        self.lent.clear();
+        self.machine.open(size);
+        self.finish(disks, most);
+    }
+
+    // Answers a call.
+    pub fn call<D: Disks>(&mut self, disks: &mut D, c: M::Call, most: u64) -> M::Reply
+        ensures code { WhereKnown D.Disks.known D.Disks.model disks.old disks.new (λ d e. Leaves ((machine_of M.Stepper.code most).does c (held_by M.Stepper.view self.old)) d (record { reply = result; mem = held_by M.Stepper.view self.new }) e) }
+        ensures read { (size : ℕ) (x : M.Stepper.machine.Mem) → smallest ≤ size → size ≤ largest → M.Stepper.most ≤ most → M.Stepper.same size (held_by M.Stepper.view self.old) x → WhereKnown D.Disks.known D.Disks.model disks.old disks.new (Ends (λ y. (result ≡ y.reply) × M.Stepper.same size (held_by M.Stepper.view self.new) y.mem) (M.Stepper.machine.does c x)) }
+    {
+        self.machine.begin(c);
+        self.finish(disks, most);
+        self.machine.reply()
+    }
+
+    // Does one stretch of mending; says whether all is whole.
+    pub fn mend<D: Disks>(&mut self, disks: &mut D, most: u64) -> bool
+        ensures code { WhereKnown D.Disks.known D.Disks.model disks.old disks.new (λ d e. Leaves ((machine_of M.Stepper.code most).mends (held_by M.Stepper.view self.old)) d (record { whole = result; mem = held_by M.Stepper.view self.new }) e) }
+        ensures read { (size : ℕ) (x : M.Stepper.machine.Mem) → smallest ≤ size → size ≤ largest → M.Stepper.most ≤ most → M.Stepper.same size (held_by M.Stepper.view self.old) x → WhereKnown D.Disks.known D.Disks.model disks.old disks.new (Ends (λ y. (result ≡ y.whole) × M.Stepper.same size (held_by M.Stepper.view self.new) y.mem) (M.Stepper.machine.mends x)) }
+    {
+        self.machine.mend();
+        self.finish(disks, most);
+        self.machine.is_whole()
+    }
 }

@@ -7,10 +7,11 @@ ghost use Rattle.echo.specs.Twices.{twice_code, twices, TwiceSame};
 ghost use Rattle.drives.specs.Layers.{over};
 ghost use Rattle.steps.specs.Steps.{Ample};
 ghost use Rattle.steps.specs.Stacks.{Asked};
+ghost use Rattle.driver.specs.Known.{WhereKnown};
 ghost use Rattle.driver.specs.Loops.{Ends};
 ghost use Rattle.echo.specs.Tied.{echo_tied, twice_planned};
 
-use driver::Disks;
+use driver::{Disks, Running};
 use steps::layers::Planner;
 use steps::machines::Stepper;
 use steps::{Ask, Lent, Stack};
@@ -165,8 +166,8 @@ impl Planner for Twice {
 }
 
 // The layer over the machine, run on drives.
-pub fn copy_two<D: Disks>(m: &mut Stack<Twice, Echo>, lent: &mut Lent, d: &mut D, c: u64) -> bool
-    ensures { D.Disks.known d.old → Ample lent.old → Ends (λ y. result ≡ y.reply) ((over echoes twices).does c (record { below = tt; above = tt })) (D.Disks.model d.old) (D.Disks.model d.new) }
+pub fn copy_two<D: Disks>(m: &mut Running<Stack<Twice, Echo>>, disks: &mut D, c: u64) -> bool
+    ensures { Ample m.old.lent → WhereKnown D.Disks.known D.Disks.model disks.old disks.new (Ends (λ y. result ≡ y.reply) ((over echoes twices).does c (record { below = tt; above = tt }))) }
 {
-    driver::call(m, lent, d, c, 1000)
+    m.call(disks, c, 1000)
 }

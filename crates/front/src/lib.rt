@@ -3,21 +3,20 @@
 
 ghost use Rattle.std.specs.Prelude.{◌≡◌, ℕ, true};
 ghost use Rattle.drives.specs.Drives.{Drives};
-ghost use Rattle.steps.specs.Steps.{Held, machine_of};
-ghost use Rattle.steps.specs.Stacks.{stack_of};
+ghost use Rattle.driver.specs.Known.{WhereKnown};
 ghost use Rattle.driver.specs.Loops.{Leaves};
-ghost use Rattle.clock.specs.Spelled.{asked_in, reply_of, told_bytes, line_code};
+ghost use Rattle.clock.specs.Spelled.{asked_in, reply_of, told_bytes};
 ghost use Rattle.answers.specs.Says.{says, fits};
-ghost use Rattle.front.specs.Fronts.{Answered, LineDone};
+ghost use Rattle.front.specs.Fronts.{held_in, house_over, Answered, LineDone};
 
 use answers::{Answer, write_answer};
 use clock::{Asked, Clock, Phase, Told};
-use driver::Disks;
+use driver::{Disks, Running};
 use lines::calls::Call;
 use lines::order::{Built, Refusal, tag_of, turned_away};
 use steps::layers::Planner;
 use steps::machines::Stepper;
-use steps::{Doing, Lent, Stack};
+use steps::{Doing, Stack};
 
 // What is heard of a line, at a time.
 fn hear(line: &[u8], longest: usize, time: u64) -> Asked
@@ -34,6 +33,7 @@ fn hear(line: &[u8], longest: usize, time: u64) -> Asked
     }
 }
 
+// No `From`: both types are other crates'.
 fn answer_of(said: Result<(), Refusal>) -> Answer<'static>
     ensures says { says result ≡ reply_of said }
     ensures fits { fits result ≡ true }
@@ -45,6 +45,7 @@ fn answer_of(said: Result<(), Refusal>) -> Answer<'static>
 }
 
 // Writes the answer to the front of `out`, and says how long it is; nothing, where there is no room for it.
+#[tactic(auto, unfolding(clock::specs::Spelled::told_bytes))]
 fn write_told(told: Told, out: &mut [u8]) -> Option<usize>
     ensures { Answered (told_bytes told) out.old result out.new }
 {
@@ -58,7 +59,7 @@ pub const MOST: u64 = 1_000;
 // A house over whatever keeps a payload: it hears lines of up to `longest` bytes.
 #[derive(Drop)]
 pub struct House<L> {
-    stack: Stack<Clock, L>,
+    running: Running<Stack<Clock, L>>,
     longest: usize,
 }
 
@@ -71,43 +72,37 @@ impl<L: Stepper<Call = register::Call, Reply = register::Reply>> House<L> {
             tag: 0,
             phase: Phase::Rising,
         };
-        let stack = Stack {
+        let running = Running::new(Stack {
             upper,
             lower,
             doing: Doing::Opens,
-        };
-        House { stack, longest }
+        });
+        House { running, longest }
     }
 
     // Comes up on drives of a size.
-    pub fn open<D: Disks>(&mut self, lent: &mut Lent, disks: &mut D, size: u64)
-        ensures ran { D.Disks.known disks.old → D.Disks.known disks.new × Leaves ((machine_of (stack_of (line_code self.old.longest) L.Stepper.code) 1000).opens size) (D.Disks.model disks.old) (record { me = record { upper = self.new.stack.upper; lower = L.Stepper.view self.new.stack.lower; doing = self.new.stack.doing }; lent = lent.new }) (D.Disks.model disks.new) }
+    pub fn open<D: Disks>(&mut self, disks: &mut D, size: u64)
+        ensures ran { WhereKnown D.Disks.known D.Disks.model disks.old disks.new (λ d e. Leaves ((house_over L.Stepper.code self.old.longest).opens size) d (held_in L.Stepper.view self.new) e) }
         ensures same { self.new.longest ≡ self.old.longest }
     {
-        driver::open(&mut self.stack, lent, disks, size, MOST);
+        self.running.open(disks, size, MOST);
     }
 
     // Answers a line: writes the answer to the front of `out`, and says how long it is.
-    pub fn call<D: Disks>(
-        &mut self,
-        lent: &mut Lent,
-        disks: &mut D,
-        line: &[u8],
-        out: &mut [u8],
-    ) -> Option<usize>
-        ensures ran { D.Disks.known disks.old → D.Disks.known disks.new × LineDone L.Stepper.code self.old.longest line.now (record { me = record { upper = self.old.stack.upper; lower = L.Stepper.view self.old.stack.lower; doing = self.old.stack.doing }; lent = lent.old }) (D.Disks.model disks.old) out.old result out.new (record { me = record { upper = self.new.stack.upper; lower = L.Stepper.view self.new.stack.lower; doing = self.new.stack.doing }; lent = lent.new }) (D.Disks.model disks.new) }
+    pub fn call<D: Disks>(&mut self, disks: &mut D, line: &[u8], out: &mut [u8]) -> Option<usize>
+        ensures ran { WhereKnown D.Disks.known D.Disks.model disks.old disks.new (λ d e. LineDone L.Stepper.code self.old.longest line.now (held_in L.Stepper.view self.old) d out.old result out.new (held_in L.Stepper.view self.new) e) }
         ensures same { self.new.longest ≡ self.old.longest }
     {
-        let asked = hear(line, self.longest, self.stack.upper.time);
-        let told = driver::call(&mut self.stack, lent, disks, asked, MOST);
+        let asked = hear(line, self.longest, self.running.machine.upper.time);
+        let told = self.running.call(disks, asked, MOST);
         write_told(told, out)
     }
 
     // Does one stretch of mending; says whether all is whole.
-    pub fn mend<D: Disks>(&mut self, lent: &mut Lent, disks: &mut D) -> bool
-        ensures ran { D.Disks.known disks.old → D.Disks.known disks.new × Leaves ((machine_of (stack_of (line_code self.old.longest) L.Stepper.code) 1000).mends (record { me = record { upper = self.old.stack.upper; lower = L.Stepper.view self.old.stack.lower; doing = self.old.stack.doing }; lent = lent.old })) (D.Disks.model disks.old) (record { whole = result; mem = record { me = record { upper = self.new.stack.upper; lower = L.Stepper.view self.new.stack.lower; doing = self.new.stack.doing }; lent = lent.new } }) (D.Disks.model disks.new) }
+    pub fn mend<D: Disks>(&mut self, disks: &mut D) -> bool
+        ensures ran { WhereKnown D.Disks.known D.Disks.model disks.old disks.new (λ d e. Leaves ((house_over L.Stepper.code self.old.longest).mends (held_in L.Stepper.view self.old)) d (record { whole = result; mem = held_in L.Stepper.view self.new }) e) }
         ensures same { self.new.longest ≡ self.old.longest }
     {
-        driver::mend(&mut self.stack, lent, disks, MOST)
+        self.running.mend(disks, MOST)
     }
 }

@@ -6,7 +6,6 @@ use console::push_hex;
 use front::House;
 use recorder::Recorder;
 use std::io;
-use steps::Lent;
 use steps::machines::Stepper;
 use whole::{answer_line, closed_house};
 
@@ -16,7 +15,6 @@ const FEWEST: usize = 4;
 #[derive(Drop)]
 pub struct Desk {
     house: House<Recorder>,
-    lent: Lent,
     drives: Drives,
     files: DriveFiles,
     // the house is up: it was opened, and no power failed since
@@ -40,7 +38,6 @@ impl Desk {
     pub fn new(longest: usize) -> Desk {
         Desk {
             house: closed_house(longest),
-            lent: Lent { bytes: [0; 4096] },
             drives: Drives::new(),
             files: DriveFiles::none(),
             up: false,
@@ -79,8 +76,7 @@ impl Desk {
             return Ok(false);
         }
         if !self.up {
-            self.house
-                .open(&mut self.lent, &mut self.files, self.drives.sectors);
+            self.house.open(&mut self.files, self.drives.sectors);
             self.up = true;
             return self.stands(rt, out);
         }
@@ -112,14 +108,7 @@ impl Desk {
             return Ok(());
         }
         let mut answer = [0u8; 64];
-        let n = answer_line(
-            &mut self.house,
-            &mut self.lent,
-            &mut self.files,
-            line,
-            &mut answer,
-        )
-        .unwrap_or(0);
+        let n = answer_line(&mut self.house, &mut self.files, line, &mut answer).unwrap_or(0);
         if !self.stands(rt, out)? {
             return Ok(());
         }
@@ -140,7 +129,7 @@ impl Desk {
         if !self.ready(rt, out)? {
             return Ok(());
         }
-        let whole = self.house.mend(&mut self.lent, &mut self.files);
+        let whole = self.house.mend(&mut self.files);
         if self.stands(rt, out)? {
             self.say(if whole { "whole" } else { "working" }, out)?;
         }

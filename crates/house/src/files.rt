@@ -187,17 +187,22 @@ impl Disks for DriveFiles {
 
     ghost known = { λ _. ⊥ };
 
-    fn read(&mut self, drive: u8, sector: u64, into: &mut [u8; 512]) -> bool {
+    fn read(&mut self, drive: u8, sector: u64) -> Option<[u8; 512]> {
         if self.failed.is_some() || drive >= 6 {
-            return false;
+            return None;
         }
+        let mut bytes = [0u8; 512];
         let done = match &mut self.at[drive as usize] {
             None => {
-                return false;
+                return None;
             }
-            Some(file) => read_sector(file, sector, into),
+            Some(file) => read_sector(file, sector, &mut bytes),
         };
-        self.note(drive, Failure::Read(sector), done)
+        if self.note(drive, Failure::Read(sector), done) {
+            Some(bytes)
+        } else {
+            None
+        }
     }
 
     fn write(&mut self, drive: u8, sector: u64, bytes: &[u8; 512]) {

@@ -2,7 +2,6 @@
 use driver::Disks;
 use front::House as Front;
 use recorder::Recorder;
-use steps::Lent;
 use steps::machines::Stepper;
 use whole::{answer_line, closed_house};
 
@@ -14,11 +13,6 @@ pub struct House {
     front: Front<Recorder>,
 }
 
-// The memory that is lent to the house.
-pub fn lent() -> Lent {
-    Lent { bytes: [0; 4096] }
-}
-
 impl House {
     pub fn new(longest: usize) -> House {
         House {
@@ -26,22 +20,16 @@ impl House {
         }
     }
 
-    pub fn open<D: Disks>(&mut self, lent: &mut Lent, disks: &mut D, size: u64) {
-        self.front.open(lent, disks, size);
+    pub fn open<D: Disks>(&mut self, disks: &mut D, size: u64) {
+        self.front.open(disks, size);
     }
 
     // Answers a line at the front of `out`, and says how long the answer is.
-    pub fn call<D: Disks>(
-        &mut self,
-        lent: &mut Lent,
-        disks: &mut D,
-        line: &[u8],
-        out: &mut [u8],
-    ) -> usize {
-        answer_line(&mut self.front, lent, disks, line, out).unwrap_or(0)
+    pub fn call<D: Disks>(&mut self, disks: &mut D, line: &[u8], out: &mut [u8]) -> usize {
+        answer_line(&mut self.front, disks, line, out).unwrap_or(0)
     }
 
-    pub fn mend<D: Disks>(&mut self, lent: &mut Lent, disks: &mut D) -> bool {
-        self.front.mend(lent, disks)
+    pub fn mend<D: Disks>(&mut self, disks: &mut D) -> bool {
+        self.front.mend(disks)
     }
 }

@@ -1,10 +1,9 @@
 // The house on drives in memory, and what is done to both.
-use crate::machine::{House, MOST_LENT, lent};
+use crate::machine::{House, MOST_LENT};
 use script::{Chosen, Weak};
 use simdrives::{Choice, Counts, Power, SimDrives};
 use std::alloc::AllocError;
 use std::io;
-use steps::Lent;
 
 #[derive(Drop)]
 pub struct Rehearsal {
@@ -17,7 +16,6 @@ pub struct Rehearsal {
     // whether a command has asked them for something
     pub begun: bool,
     house: House,
-    lent: Lent,
     longest: usize,
     // whether the house was opened since the power last failed
     open: bool,
@@ -62,7 +60,6 @@ impl Rehearsal {
             asked,
             begun: false,
             house: House::new(1_048_576),
-            lent: lent(),
             longest: 1_048_576,
             open: false,
             chosen: Chosen::Seed(0),
@@ -144,7 +141,7 @@ impl Rehearsal {
     fn come_up(&mut self) -> bool {
         self.disks.count_anew();
         if !self.open {
-            self.house.open(&mut self.lent, &mut self.disks, self.size);
+            self.house.open(&mut self.disks, self.size);
             self.open = self.disks.is_on();
         }
         self.open
@@ -168,12 +165,8 @@ impl Rehearsal {
     pub fn call(&mut self, length: usize) -> Came<usize> {
         let said = if self.come_up() {
             let n = length.min(self.line.len());
-            self.house.call(
-                &mut self.lent,
-                &mut self.disks,
-                &self.line[0..n],
-                &mut self.answer,
-            )
+            self.house
+                .call(&mut self.disks, &self.line[0..n], &mut self.answer)
         } else {
             0
         };
@@ -186,7 +179,7 @@ impl Rehearsal {
 
     // Does one stretch of mending; says whether all is whole.
     pub fn mend(&mut self) -> Came<bool> {
-        let whole = self.come_up() && self.house.mend(&mut self.lent, &mut self.disks);
+        let whole = self.come_up() && self.house.mend(&mut self.disks);
         if self.went_down() {
             return Came::Cut;
         }

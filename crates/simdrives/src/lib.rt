@@ -1,7 +1,7 @@
 // Six drives in memory that can be lost, replaced and cut.
 #![tactic(auto)]
 
-ghost use Rattle.std.specs.Prelude.{◌≡◌, ℕ, ◌<◌, Bool, true, false, List, [], length, IfOk, if◌then◌else◌, ◌≢◌, slice_index_or};
+ghost use Rattle.std.specs.Prelude.{◌≡◌, ℕ, ◌<◌, Bool, true, false, List, [], length, IfOk, if◌then◌else◌, ◌≢◌, slice_index_or, unwrap_or};
 ghost use Rattle.drives.specs.Drives.{Drives, gone, there, blank_drive, shown, written_to, synced_one, put, AfterCut, CutSlot};
 ghost use Rattle.drives.specs.Machines.{is_gone};
 ghost use Rattle.simdrives.specs.Sims.{slots};
@@ -189,26 +189,27 @@ impl SimDrives {
         }
     }
 
-    // Says whether there was a sector to be read, and that is so only while the power is on.
-    fn read_one(&mut self, drive: usize, sector: u64, into: &mut [u8; 512]) -> bool
+    // What the sector holds; nothing where there is no sector to be read, or the power is off.
+    fn read_one(&mut self, drive: usize, sector: u64) -> Option<[u8; 512]>
         ensures on { self.new.power ≡ asked_of self.old.power }
         ensures same { slots self.new.drives.items ≡ slots self.old.drives.items }
-        ensures value { (if result then into.new else []) ≡ (if works self.new.power then shown (slots self.old.drives.items drive) sector else []) }
+        ensures value { unwrap_or result [] ≡ (if works self.new.power then shown (slots self.old.drives.items drive) sector else []) }
     {
         if !self.carries_on() {
-            return false;
+            return None;
         }
         self.counts.reads = self.counts.reads.saturating_add(1);
         if drive < self.drives.len() {
             match &self.drives[drive] {
                 Some(d) => {
-                    d.read(sector, into);
-                    true
+                    let mut bytes = [0; 512];
+                    d.read(sector, &mut bytes);
+                    Some(bytes)
                 }
-                None => false,
+                None => None,
             }
         } else {
-            false
+            None
         }
     }
 
@@ -252,8 +253,8 @@ impl Disks for SimDrives {
 
     ghost known = { λ _. ⊥ };
 
-    fn read(&mut self, drive: u8, sector: u64, into: &mut [u8; 512]) -> bool {
-        self.read_one(drive as usize, sector, into)
+    fn read(&mut self, drive: u8, sector: u64) -> Option<[u8; 512]> {
+        self.read_one(drive as usize, sector)
     }
 
     fn write(&mut self, drive: u8, sector: u64, bytes: &[u8; 512]) {
@@ -271,11 +272,9 @@ mod tests {
     use std::test::Fail;
 
     fn byte(d: &mut SimDrives, drive: u8, sector: u64) -> u8 {
-        let mut bytes = [9; 512];
-        if d.read(drive, sector, &mut bytes) {
-            bytes[0]
-        } else {
-            255
+        match d.read(drive, sector) {
+            Some(bytes) => bytes[0],
+            None => 255,
         }
     }
 

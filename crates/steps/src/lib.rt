@@ -14,11 +14,17 @@ pub struct Lent {
 }
 
 impl Lent {
+    pub fn new() -> Lent
+        ensures { result ≡ unused }
+    {
+        Lent { bytes: [0; 4096] }
+    }
+
     // As it is at first.
     pub fn clear(&mut self)
         ensures { self.new ≡ unused }
     {
-        self.bytes = [0; 4096];
+        *self = Lent::new();
     }
 
     // The sector that a request to write means.

@@ -2,16 +2,14 @@
 #![tactic(auto)]
 
 ghost use Rattle.std.specs.Prelude.{◌≡◌};
-ghost use Rattle.drives.specs.Drives.{Drives};
+ghost use Rattle.driver.specs.Known.{WhereKnown};
 ghost use Rattle.recorder.specs.Recording.{recorder_code};
-ghost use Rattle.front.specs.Fronts.{LineDone};
-ghost use Rattle.driver.specs.Loops.{Leaves};
+ghost use Rattle.front.specs.Fronts.{held_in, LineDone};
 ghost use Rattle.whole.specs.Wholes.{house_of, TimeStands};
 
 use driver::Disks;
 use front::House;
 use recorder::Recorder;
-use steps::Lent;
 
 // A house that isn't up yet; it will hear lines of up to `longest` bytes.
 pub fn closed_house(longest: usize) -> House<Recorder>
@@ -24,14 +22,13 @@ pub fn closed_house(longest: usize) -> House<Recorder>
 // whichever two drives are lost and replaced, everything that is ever seen is as the meaning says.
 pub fn answer_line<D: Disks>(
     house: &mut House<Recorder>,
-    lent: &mut Lent,
     disks: &mut D,
     line: &[u8],
     out: &mut [u8],
 ) -> Option<usize>
-    ensures ran { D.Disks.known disks.old → D.Disks.known disks.new × LineDone recorder_code house.old.longest line.now (record { me = house.old.stack; lent = lent.old }) (D.Disks.model disks.old) out.old result out.new (record { me = house.new.stack; lent = lent.new }) (D.Disks.model disks.new) }
+    ensures ran { WhereKnown D.Disks.known D.Disks.model disks.old disks.new (λ d e. LineDone recorder_code house.old.longest line.now (held_in (λ r. r) house.old) d out.old result out.new (held_in (λ r. r) house.new) e) }
     ensures same { house.new.longest ≡ house.old.longest }
     ensures whole { TimeStands }
 {
-    house.call(lent, disks, line, out)
+    house.call(disks, line, out)
 }

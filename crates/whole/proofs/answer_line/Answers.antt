@@ -1,5 +1,5 @@
 use Rattle.whole.proofs.Stands.{time_stands}
 use Rattle.whole.proofs.answer_line.Goals as goal
 
-pub returns : goal.returns
-returns g c = record { ran = c.call.ensures.ran; same = c.call.ensures.same; whole = time_stands }
+pub returns-clause-whole : goal.returns-clause-whole
+returns-clause-whole g c = time_stands
