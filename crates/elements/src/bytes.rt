@@ -3,7 +3,7 @@ ghost use Rattle.std.specs.Prelude.{◌≡◌, ◌+◌, ◌-◌, ◌*◌, ◌/�
 ghost use Rattle.field.specs.Field.{double, dot, times};
 ghost use Rattle.field.specs.Stripe.{generator};
 
-// The product of each element with 2.
+// The product of each element with 2. By a shift and a sum in place of the table, pieces of 100 bytes were encoded at 0.77 of the speed.
 const DOUBLES: [u8; 256] = [
     0, 2, 4, 6, 8, 10, 12, 14, 16, 18, 20, 22, 24, 26, 28, 30, 32, 34, 36, 38, 40, 42, 44, 46, 48,
     50, 52, 54, 56, 58, 60, 62, 64, 66, 68, 70, 72, 74, 76, 78, 80, 82, 84, 86, 88, 90, 92, 94, 96,
@@ -27,7 +27,8 @@ pub(crate) fn doubled_byte(x: u8) -> u8
     DOUBLES[x as usize]
 }
 
-// An element of Q.
+// An element of Q. A trait that both bytes and vectors have would make this and `weighted` one, but its laws can't say that a u8 is below 256, so
+// each function would ask that of its four arguments, which is no plainer.
 pub(crate) fn weighted_byte(w: u8, x: u8, y: u8, z: u8) -> u8
     ensures { result ≡ dot (generator 5) w x y z }
 {

@@ -14,6 +14,7 @@ pub(crate) fn encode_vectors(four: &Four, p: &mut [u8], q: &mut [u8])
     ensures q { take (length four.now.w.now / 32 * 32) q.new ≡ take (length four.now.w.now / 32 * 32) (blended (generator 5) four.now) }
 {
     let Four { w, x, y, z } = *four;
+    // By index: six slices go side by side, and zips would nest them five deep.
     for i in 0..w.len() / WIDTH {
         let at = i * WIDTH;
         let a = load(w, at);
@@ -34,6 +35,7 @@ pub(crate) fn encode_bytes(four: &Four, p: &mut [u8], q: &mut [u8], from: usize)
     ensures q { q.new ≡ blended (generator 5) four.now }
 {
     let Four { w, x, y, z } = *four;
+    // By index, as above.
     for i in from..w.len() {
         p[i] = w[i] ^ x[i] ^ y[i] ^ z[i];
         q[i] = weighted_byte(w[i], x[i], y[i], z[i]);

@@ -49,7 +49,8 @@ impl<'a> Quorum<'a> {
         self.pieces.len()
     }
 
-    // The piece at a place.
+    // The piece at a place. Inlined, since a call would cost a small piece some of its speed.
+    #[inline(always)]
     pub(crate) fn piece(&self, wanted: usize, out: &mut [u8])
         requires { (wanted < 6) × (length out.old ≡ length self.now.pieces.w.now) }
         ensures { out.new ≡ rebuilt (held_by self.now) wanted }
@@ -66,7 +67,9 @@ impl<'a> Quorum<'a> {
         } else {
             // All six places add up to 15.
             let other = 15 - self.p - self.q - self.r - self.s - wanted;
-            fill_lost(wanted, other, &self.pieces, out);
+            // A copy, so that `self` itself need not lie in memory.
+            let pieces = self.pieces;
+            fill_lost(wanted, other, &pieces, out);
         }
     }
 
