@@ -1,5 +1,5 @@
 use Rattle.std.proofs.Common.{rules}
-use Rattle.fills.proofs.Puts.{room_behind, puts_as}
+use Rattle.fills.proofs.Puts.{puts_as}
 use Rattle.fills.proofs.Writer.put_field.Goals as goal
 
 pub returns-in-Expects-Is : goal.returns-in-Expects-Is
