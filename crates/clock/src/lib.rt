@@ -80,6 +80,7 @@ impl Planner for Clock {
         self.phase = Phase::Begun(c.heard);
     }
 
+    // the check wants the clause of the trait written out here
     fn turn(&mut self, reply: Option<Reply>) -> Option<Call>
         ensures { record { me = self.new; next = result } ≡ clock_code.turns self.old reply }
     {
