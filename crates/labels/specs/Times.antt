@@ -1,9 +1,10 @@
 -- The labels of this format version: the payload has the time in its first eight bytes, high byte first, and zeros in the others.
 -- Assumes nothing.
-use Rattle.std.specs.Prelude.{ℕ, ◌+◌, ◌*◌, ◌/◌, ◌%◌, Bool, true, false, cond, ◌&&◌, T, List, [], ◌∷◌, ◌++◌, nat_lt, slice_index, Option, None, Some}
+use Rattle.std.specs.Prelude.{ℕ, ◌/◌, ◌%◌, Bool, true, false, cond, ◌&&◌, T, List, ◌++◌, nat_lt, drop, Option, None, Some}
 use Rattle.std.proofs.Math.Option as math
 use Rattle.std.proofs.Math.Option.{none, some}
 use Rattle.std.proofs.Common.{mod-lt, lt→ltb, lit<}
+use Rattle.std.specs.Int.{w64, to_be_bytes, from_be_bytes}
 use Rattle.std.specs.Str.{bytes_eq}
 use Rattle.drives.specs.Drives.{zeros, all_bytes}
 use Rattle.root.specs.Root as root
@@ -26,30 +27,9 @@ mod_low n = lt→ltb (n % 18446744073709551616) 18446744073709551616 (mod-lt n (
 abbrev pub time_of : ℕ → Time
 time_of n = record { ms = n % 18446744073709551616; low = mod_low n }
 
--- eight bytes, the high one first
-abbrev pub eight : ℕ → List ℕ
-eight n =
-    (n / 72057594037927936 % 256) ∷
-    (n / 281474976710656 % 256) ∷
-    (n / 1099511627776 % 256) ∷
-    (n / 4294967296 % 256) ∷
-    (n / 16777216 % 256) ∷
-    (n / 65536 % 256) ∷
-    (n / 256 % 256) ∷
-    (n % 256) ∷
-    []
-
 -- the number that eight bytes say, from `at` on
 abbrev pub number : (at : ℕ) → List ℕ → ℕ
-number at b =
-    slice_index b at * 72057594037927936 +
-    slice_index b (at + 1) * 281474976710656 +
-    slice_index b (at + 2) * 1099511627776 +
-    slice_index b (at + 3) * 4294967296 +
-    slice_index b (at + 4) * 16777216 +
-    slice_index b (at + 5) * 65536 +
-    slice_index b (at + 6) * 256 +
-    slice_index b (at + 7)
+number at b = from_be_bytes w64 (drop at b)
 
 -- the byte that says a label's kind
 abbrev pub byte_of : Kind → ℕ
@@ -57,9 +37,9 @@ byte_of kind.Empty = 1
 byte_of kind.Committed = 2
 byte_of kind.Rebuilding = 3
 
--- the 480 bytes of a payload
+-- the 480 bytes of a payload, whose first eight have the time, the high byte first
 abbrev pub payload_of : ℕ → List ℕ
-payload_of n = eight n ++ zeros 472
+payload_of n = to_be_bytes w64 n ++ zeros 472
 
 byte : (n : ℕ) → T (nat_lt (n % 256) 256)
 byte n = lt→ltb (n % 256) 256 (mod-lt n (lit< tt))

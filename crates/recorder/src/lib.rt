@@ -73,6 +73,7 @@ impl Drives {
         self.seen.iter().find_map(|l| l.committed())
     }
 
+    // Which drives are trusted.
     fn trusted(&self) -> [bool; 6]
         ensures { result ≡ map trusts self.now.seen }
     {
