@@ -1,16 +1,14 @@
 -- What a sector shows is what its tests say: a sector is a label only if it is what that label is written as.
 -- Assumes nothing.
-use Rattle.std.proofs.Common.{◌≡◌, ℕ, ◌<◌, true, false, List, [], ◌∷◌, length, sym, refl, ap, ◌∙◌, inl, inr, mod-eq_of_lt, arith}
+use Rattle.std.proofs.Common.{◌≡◌, ℕ, ◌<◌, List, [], ◌∷◌, length, sym, refl, ap, ◌∙◌, inl, inr, mod-eq_of_lt, arith}
+use Rattle.std.specs.Prelude.{None, Some}
 use mathlib.Core.Option.{Option, none, some}
-use Rattle.std.specs.Str.{bytes_eq}
-use Rattle.std.proofs.lemmas.Slice.Eq.{bytes_eq-Decides}
 use Rattle.drives.specs.Drives.{zeros}
 use Rattle.root.specs.Root.{Label, missing, blank, rebuilding, has, empty, committed, record_of, is_there, trusted}
 use Rattle.root.specs.Labels.{sector, encode}
 use Rattle.labels.specs.Times.{Time, time_of, number, payload_of, timed, label_of, label_in, label_bytes, trusts}
 use Rattle.register.specs.declared.Payload.{Payload}
 use Rattle.labels.specs.declared.Label.TheVariants.{Committed}
-use Rattle.labels.specs.declared.Record.TheVariants as kind
 use Rattle.labels.proofs.Lawful.{number_is, timed_lawful}
 
 -- what is written of a label shows that label
@@ -21,28 +19,28 @@ payload_none : payload_of 0 ≡ zeros 480
 unfolding zeros
 payload_none = refl
 
-pub shows_blank : (b : List ℕ) → bytes_eq b (zeros 512) ≡ true → label_in b ≡ label_of (some blank)
+pub shows_blank : (b : List ℕ) → b ≡ zeros 512 → label_in b ≡ label_of (some blank)
 unfolding encode
-shows_blank b h = shows b blank ((bytes_eq-Decides _ _).0 h)
+shows_blank b h = shows b blank h
 
-pub shows_rebuilding : (b : List ℕ) → bytes_eq b (sector 3 (payload_of 0)) ≡ true → label_in b ≡ label_of (some rebuilding)
+pub shows_rebuilding : (b : List ℕ) → b ≡ sector 3 (payload_of 0) → label_in b ≡ label_of (some rebuilding)
 unfolding encode
-shows_rebuilding b h = shows b rebuilding ((bytes_eq-Decides _ _).0 h ∙ ap (sector 3) payload_none)
+shows_rebuilding b h = shows b rebuilding (h ∙ ap (sector 3) payload_none)
 
-pub shows_empty : (b : List ℕ) → bytes_eq b (sector 1 (payload_of 0)) ≡ true → label_in b ≡ label_of (some (has empty))
+pub shows_empty : (b : List ℕ) → b ≡ sector 1 (payload_of 0) → label_in b ≡ label_of (some (has empty))
 unfolding encode
-shows_empty b h = shows b (has empty) ((bytes_eq-Decides _ _).0 h ∙ ap (sector 1) payload_none)
+shows_empty b h = shows b (has empty) (h ∙ ap (sector 1) payload_none)
 
-pub shows_committed : (b : List ℕ) (n : ℕ) → n < 18446744073709551616 → bytes_eq b (sector 2 (payload_of n)) ≡ true → label_in b ≡ Committed (record { time = n })
+pub shows_committed : (b : List ℕ) (n : ℕ) → n < 18446744073709551616 → b ≡ sector 2 (payload_of n) → label_in b ≡ Committed (record { time = n })
 unfolding encode
-shows_committed b n l h = shows b (has (committed (time_of n))) ((bytes_eq-Decides _ _).0 h ∙ ap (λ m. sector 2 (payload_of m)) (sym (mod-eq_of_lt l))) ∙ ap (λ m. Committed (record { time = m })) (mod-eq_of_lt l)
+shows_committed b n l h = shows b (has (committed (time_of n))) (h ∙ ap (λ m. sector 2 (payload_of m)) (sym (mod-eq_of_lt l))) ∙ ap (λ m. Committed (record { time = m })) (mod-eq_of_lt l)
 
 -- what is written of a record
-pub written_empty : sector 1 (payload_of 0) ≡ label_bytes kind.Empty
+pub written_empty : sector 1 (payload_of 0) ≡ label_bytes None
 unfolding encode
 written_empty = ap (sector 1) payload_none
 
-pub written_committed : (p : Payload) → p.time < 18446744073709551616 → sector 2 (payload_of p.time) ≡ label_bytes (kind.Committed p)
+pub written_committed : (p : Payload) → p.time < 18446744073709551616 → sector 2 (payload_of p.time) ≡ label_bytes (Some p)
 unfolding encode
 written_committed p l = ap (λ m. sector 2 (payload_of m)) (sym (mod-eq_of_lt l))
 
@@ -50,9 +48,6 @@ written_committed p l = ap (λ m. sector 2 (payload_of m)) (sym (mod-eq_of_lt l)
 number_at : (t : Time) → number 16 (sector 2 (payload_of t.ms)) ≡ number 0 (payload_of t.ms)
 unfolding sector zeros
 number_at t = refl
-
-apart : ◌≡◌ {A = ℕ} 0 1 → ⊥
-apart z = omega arith
 
 -- what no label is written as shows none
 pub shows_none : (b : List ℕ) → ((l : Label Time) → timed.encode l ≡ b → ⊥) → label_in b ≡ label_of none
@@ -70,33 +65,31 @@ shows_missing b h = shows b missing (no_bytes b h)
     no_bytes [] e = refl
     no_bytes (x ∷ xs) e = absurd (omega arith)
 
-pub shows_short : (b : List ℕ) → (length b ≡ 0 → ⊥) → length b < 24 → label_in b ≡ label_of none
+-- a sector has 512 bytes
+pub shows_odd : (b : List ℕ) → (length b ≡ 0 → ⊥) → (length b ≡ 512 → ⊥) → label_in b ≡ label_of none
 unfolding encode
-shows_short b k h = shows_none b (λ l e. elim (timed_lawful.whole l) [ inl m ↦ k (ap length (sym (sym (ap timed.encode m) ∙ e))) | inr m ↦ let n = ap length e in omega (arith, m, n, h) ])
+shows_odd b k h = shows_none b (λ l e. elim (timed_lawful.whole l) [ inl m ↦ k (ap length (sym (sym (ap timed.encode m) ∙ e))) | inr m ↦ h (ap length (sym e) ∙ m) ])
 
 pub shows_foreign :
     (b : List ℕ) (n : ℕ) →
     n ≡ number 16 b →
     (length b ≡ 0 → ⊥) →
-    bytes_eq b (zeros 512) ≡ false →
-    bytes_eq b (sector 3 (payload_of 0)) ≡ false →
-    bytes_eq b (sector 1 (payload_of 0)) ≡ false →
-    bytes_eq b (sector 2 (payload_of n)) ≡ false →
+    (b ≡ zeros 512 → ⊥) →
+    (b ≡ sector 3 (payload_of 0) → ⊥) →
+    (b ≡ sector 1 (payload_of 0) → ⊥) →
+    (b ≡ sector 2 (payload_of n) → ⊥) →
     label_in b ≡ label_of none
 unfolding encode
 shows_foreign b n i k h₁ h₂ h₃ h₄ = shows_none b no
   where
-    not_same : (c : List ℕ) → bytes_eq b c ≡ false → c ≡ b → ⊥
-    not_same c h e = let g : bytes_eq b c ≡ true = (bytes_eq-Decides b c).1 (sym e) in apart (cc)
-
     no : (l : Label Time) → timed.encode l ≡ b → ⊥
     no missing e = k (ap length (sym e))
-    no blank e = not_same (zeros 512) h₁ e
-    no rebuilding e = not_same (sector 3 (payload_of 0)) h₂ (ap (sector 3) payload_none ∙ e)
-    no (has empty) e = not_same (sector 1 (payload_of 0)) h₃ (ap (sector 1) payload_none ∙ e)
+    no blank e = h₁ (sym e)
+    no rebuilding e = h₂ (sym (ap (sector 3) payload_none ∙ e))
+    no (has empty) e = h₃ (sym (ap (sector 1) payload_none ∙ e))
     no (has (committed t)) e =
         let j : t.ms ≡ n = sym (i ∙ ap (number 16) (sym e) ∙ number_at t ∙ number_is t) in
-        not_same (sector 2 (payload_of n)) h₄ (ap (λ m. sector 2 (payload_of m)) (sym j) ∙ e)
+        h₄ (sym (ap (λ m. sector 2 (payload_of m)) (sym j) ∙ e))
 
 trust_of : (o : Option (Label Time)) → trusts (label_of o) ≡ is_there (record_of o)
 trust_of none = refl

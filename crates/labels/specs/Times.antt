@@ -1,8 +1,10 @@
 -- The labels of this format version: the payload has the time in its first eight bytes, high byte first, and zeros in the others.
 -- Assumes nothing.
-use Rattle.std.specs.Prelude.{ℕ, ◌+◌, ◌*◌, ◌/◌, ◌%◌, Bool, true, false, cond, ◌&&◌, T, List, [], ◌∷◌, ◌++◌, nat_lt, slice_index}
-use Rattle.std.proofs.Math.Option.{Option, none, some}
+use Rattle.std.specs.Prelude.{ℕ, ◌/◌, ◌%◌, Bool, true, false, cond, ◌&&◌, T, List, ◌++◌, nat_lt, drop, Option, None, Some}
+use Rattle.std.proofs.Math.Option as math
+use Rattle.std.proofs.Math.Option.{none, some}
 use Rattle.std.proofs.Common.{mod-lt, lt→ltb, lit<}
+use Rattle.std.specs.Int.{w64, to_be_bytes, from_be_bytes}
 use Rattle.std.specs.Str.{bytes_eq}
 use Rattle.drives.specs.Drives.{zeros, all_bytes}
 use Rattle.root.specs.Root as root
@@ -10,8 +12,9 @@ use Rattle.root.specs.Labels.{fits_block, Block, labels}
 use Rattle.labels.specs.Restricted.{Part, restricted}
 use Rattle.labels.specs.declared.Label.{Label}
 use Rattle.labels.specs.declared.Label.TheVariants.{Missing, Blank, Rebuilding, Empty, Committed, Foreign}
-use Rattle.labels.specs.declared.Record.{Record}
-use Rattle.labels.specs.declared.Record.TheVariants as kind
+use Rattle.labels.specs.declared.Kind.{Kind}
+use Rattle.labels.specs.declared.Kind.TheVariants as kind
+use Rattle.register.specs.declared.Payload.{Payload}
 
 -- a time that eight bytes hold
 pub record Time : Type 0 where
@@ -24,34 +27,19 @@ mod_low n = lt→ltb (n % 18446744073709551616) 18446744073709551616 (mod-lt n (
 abbrev pub time_of : ℕ → Time
 time_of n = record { ms = n % 18446744073709551616; low = mod_low n }
 
--- eight bytes, the high one first
-abbrev pub eight : ℕ → List ℕ
-eight n =
-    (n / 72057594037927936 % 256) ∷
-    (n / 281474976710656 % 256) ∷
-    (n / 1099511627776 % 256) ∷
-    (n / 4294967296 % 256) ∷
-    (n / 16777216 % 256) ∷
-    (n / 65536 % 256) ∷
-    (n / 256 % 256) ∷
-    (n % 256) ∷
-    []
-
 -- the number that eight bytes say, from `at` on
 abbrev pub number : (at : ℕ) → List ℕ → ℕ
-number at b =
-    slice_index b at * 72057594037927936 +
-    slice_index b (at + 1) * 281474976710656 +
-    slice_index b (at + 2) * 1099511627776 +
-    slice_index b (at + 3) * 4294967296 +
-    slice_index b (at + 4) * 16777216 +
-    slice_index b (at + 5) * 65536 +
-    slice_index b (at + 6) * 256 +
-    slice_index b (at + 7)
+number at b = from_be_bytes w64 (drop at b)
 
--- the 480 bytes of a payload
+-- the byte that says a label's kind
+abbrev pub byte_of : Kind → ℕ
+byte_of kind.Empty = 1
+byte_of kind.Committed = 2
+byte_of kind.Rebuilding = 3
+
+-- the 480 bytes of a payload, whose first eight have the time, the high byte first
 abbrev pub payload_of : ℕ → List ℕ
-payload_of n = eight n ++ zeros 472
+payload_of n = to_be_bytes w64 n ++ zeros 472
 
 byte : (n : ℕ) → T (nat_lt (n % 256) 256)
 byte n = lt→ltb (n % 256) 256 (mod-lt n (lit< tt))
@@ -66,7 +54,7 @@ payload_is_block n =
     both _ _ (byte (n / 72057594037927936)) (both _ _ (byte (n / 281474976710656)) (both _ _ (byte (n / 1099511627776)) (both _ _ (byte (n / 4294967296))
     (both _ _ (byte (n / 16777216)) (both _ _ (byte (n / 65536)) (both _ _ (byte (n / 256)) (both _ _ (byte n) tt)))))))
 
-abbrev pub time_in : List ℕ → Option Time
+abbrev pub time_in : List ℕ → math.Option Time
 time_in b = cond (bytes_eq b (payload_of (number 0 b % 18446744073709551616))) (some (time_of (number 0 b))) none
 
 abbrev pub times : Part Time Block
@@ -77,7 +65,7 @@ abbrev pub timed : root.Codec
 timed = restricted labels Time (time_of 0) times
 
 -- what a sector shows
-abbrev pub label_of : Option (root.Label Time) → Label
+abbrev pub label_of : math.Option (root.Label Time) → Label
 label_of none = Foreign
 label_of (some root.missing) = Missing
 label_of (some root.blank) = Blank
@@ -97,16 +85,25 @@ trusts Empty = true
 trusts (Committed p) = true
 trusts Foreign = false
 
--- a record of the code, and the same to be read
-abbrev pub record_for : Record → root.Record Time
-record_for kind.Empty = root.empty
-record_for (kind.Committed p) = root.committed (time_of p.time)
+-- what was committed, by a label
+abbrev pub committed_on : Label → Option Payload
+committed_on Missing = None
+committed_on Blank = None
+committed_on Rebuilding = None
+committed_on Empty = None
+committed_on (Committed p) = Some p
+committed_on Foreign = None
 
-abbrev pub record_as : root.Record Time → Record
-record_as root.empty = kind.Empty
-record_as (root.committed t) = kind.Committed (record { time = t.ms })
+-- a record of the code, which is what was committed, if anything was; and the same to be read
+abbrev pub record_for : Option Payload → root.Record Time
+record_for None = root.empty
+record_for (Some p) = root.committed (time_of p.time)
 
-abbrev pub label_bytes : Record → List ℕ
+abbrev pub record_as : root.Record Time → Option Payload
+record_as root.empty = None
+record_as (root.committed t) = Some (record { time = t.ms })
+
+abbrev pub label_bytes : Option Payload → List ℕ
 label_bytes r = timed.encode (root.has (record_for r))
 
 -- these labels are right, and with them the root record stands

@@ -1,20 +1,11 @@
 // The label of a drive: its sector 0, read and written. The bytes are laid out in docs/LAYOUT.md.
 #![tactic(auto)]
 
-ghost use Rattle.std.specs.Prelude.{◌≡◌, ◌≤◌, length};
-ghost use Rattle.std.specs.Str.{bytes_eq};
-ghost use Rattle.drives.specs.Drives.{zeros};
+ghost use Rattle.std.specs.Prelude.{◌≡◌};
 ghost use Rattle.root.specs.Labels.{sector as whole};
-ghost use Rattle.labels.specs.Times.{payload_of, number, label_in, label_bytes, trusts, LabelsStand};
+ghost use Rattle.labels.specs.Times.{byte_of, payload_of, number, label_in, label_bytes, trusts, committed_on, LabelsStand};
 
 use register::Payload;
-
-// The record that a label may have: nothing was ever committed, or this was.
-#[derive(Clone, Copy)]
-pub enum Record {
-    Empty,
-    Committed(Payload),
-}
 
 // What a drive shows: it is not there, it is new, it is being filled, it has a record, or it is none of ours.
 #[derive(Clone, Copy)]
@@ -27,87 +18,100 @@ pub enum Label {
     Foreign,
 }
 
-// A label of a kind: 1 for `empty`, 2 for `committed`, 3 for the rebuild mark.
-fn laid(kind: u8, time: u64) -> [u8; 512]
-    ensures { result ≡ whole kind (payload_of time) }
+impl Label {
+    // Whether a drive that shows this is trusted: it has a record, of either kind.
+    pub fn is_trusted(self) -> bool
+        ensures { result ≡ trusts self }
+    {
+        matches!(self, Label::Empty | Label::Committed(_))
+    }
+
+    // What was committed, by this label.
+    pub fn committed(self) -> Option<Payload>
+        ensures { result ≡ committed_on self }
+    {
+        match self {
+            Label::Committed(p) => Some(p),
+            _ => None,
+        }
+    }
+}
+
+// The labels that are written in a sector of their own kind.
+#[derive(Clone, Copy)]
+enum Kind {
+    Empty,
+    Committed,
+    Rebuilding,
+}
+
+impl From<Kind> for u8 {
+    ghost from_gives = { λ kind byte. byte ≡ byte_of kind };
+
+    fn from(kind: Kind) -> u8 {
+        match kind {
+            Kind::Empty => 1,
+            Kind::Committed => 2,
+            Kind::Rebuilding => 3,
+        }
+    }
+}
+
+// A label of a kind.
+fn laid(kind: Kind, time: u64) -> [u8; 512]
+    ensures { result ≡ whole (byte_of kind) (payload_of time) }
 {
     let mut b = [0; 512];
     b[0..8].copy_from_slice(b"luvdjast");
     b[8] = 1;
-    b[9] = kind;
+    b[9] = u8::from(kind);
     b[16..24].copy_from_slice(&time.to_be_bytes());
     b
 }
 
 // The time in the payload of a sector.
-fn time_in(s: &[u8]) -> u64
-    requires { 24 ≤ length s.now }
-    ensures { result ≡ number 16 s.now }
+fn time_in(sector: &[u8; 512]) -> u64
+    ensures { result ≡ number 16 sector.now }
 {
-    u64::from_be_bytes([s[16], s[17], s[18], s[19], s[20], s[21], s[22], s[23]])
+    u64::from_be_bytes(sector[16..24].try_into().unwrap())
 }
 
-fn same(a: &[u8], b: &[u8]) -> bool
-    ensures { result ≡ bytes_eq a.now b.now }
-{
-    a == b
-}
-
-fn is_blank(s: &[u8]) -> bool
-    ensures { result ≡ bytes_eq s.now (zeros 512) }
-{
-    same(s, &[0; 512])
-}
-
-fn is_laid(s: &[u8], kind: u8, time: u64) -> bool
-    ensures { result ≡ bytes_eq s.now (whole kind (payload_of time)) }
-{
-    same(s, &laid(kind, time))
-}
-
-// What a drive shows, by the bytes that its sector 0 reads as; nothing is read of a drive that is not there.
-// A sector is a label only if it is what would be written for that label, so nothing else is taken for one.
-pub fn read_label(sector: &[u8]) -> Label
+// What a sector shows. It is a label only if it is what would be written for that label, so nothing else is taken for one.
+fn label_in(sector: &[u8; 512]) -> Label
     ensures { result ≡ label_in sector.now }
 {
-    if sector.len() == 0 {
-        return Label::Missing;
-    }
-    if sector.len() < 24 {
-        return Label::Foreign;
-    }
     let time = time_in(sector);
-    if is_blank(sector) {
+    if *sector == [0; 512] {
         Label::Blank
-    } else if is_laid(sector, 3, 0) {
+    } else if *sector == laid(Kind::Rebuilding, 0) {
         Label::Rebuilding
-    } else if is_laid(sector, 1, 0) {
+    } else if *sector == laid(Kind::Empty, 0) {
         Label::Empty
-    } else if is_laid(sector, 2, time) {
+    } else if *sector == laid(Kind::Committed, time) {
         Label::Committed(Payload { time })
     } else {
         Label::Foreign
     }
 }
 
-// Whether a drive that shows this is trusted: it has a record, of either kind.
-pub fn is_trusted(l: Label) -> bool
-    ensures { result ≡ trusts l }
+// What a drive shows, by the bytes that its sector 0 reads as; nothing is read of a drive that is not there.
+pub fn read_label(sector: &[u8]) -> Label
+    ensures { result ≡ label_in sector.now }
 {
-    match l {
-        Label::Empty => true,
-        Label::Committed(_) => true,
-        _ => false,
+    match sector.as_array::<512>() {
+        Some(whole) => label_in(whole),
+        None if sector.is_empty() => Label::Missing,
+        None => Label::Foreign,
     }
 }
 
-// The sector that has the label of a record.
-pub fn write_label(r: Record) -> [u8; 512]
-    ensures { result ≡ label_bytes r }
+// The sector that has the label of a record: of what was committed, or that nothing ever was.
+pub fn write_label(committed: Option<Payload>) -> [u8; 512]
+    ensures { result ≡ label_bytes committed }
 {
-    match r {
-        Record::Empty => laid(1, 0),
-        Record::Committed(p) => laid(2, p.time),
+    match committed {
+        None => laid(Kind::Empty, 0),
+        Some(p) => laid(Kind::Committed, p.time),
     }
 }
 

@@ -6,7 +6,10 @@ use Rattle.crash.specs.Loops.{on_each, write_if, sync_all, gather}
 use Rattle.root.specs.Root.{Record, has, settle, untrusted}
 use Rattle.labels.specs.Times.{Time, timed, label_in}
 use Rattle.labels.proofs.Shows.{trust_is}
-use Rattle.mending.specs.Stretches.{lacks, one, StretchAsks}
+use Rattle.mending.specs.Stretches.{lacks, StretchAsks}
+
+abbrev one : Bool → ℕ
+one b = cond b 1 0
 
 -- how many of the drives below n pass
 abbrev passing : (ℕ → Bool) → ℕ → ℕ

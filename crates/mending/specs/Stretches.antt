@@ -1,6 +1,6 @@
 -- What a stretch of mending does, by the labels that the six drives show.
 -- Assumes nothing.
-use Rattle.std.specs.Prelude.{◌≡◌, ℕ, ◌+◌, Bool, true, false, not, List, [], ◌∷◌, map}
+use Rattle.std.specs.Prelude.{◌≡◌, ◌+◌, Bool, not, List, [], ◌∷◌, map, count_by}
 use Rattle.drives.specs.Drives.{Drives, shown, ops_of}
 use Rattle.root.specs.Root.{Record, machine}
 use Rattle.labels.specs.declared.Label.{Label}
@@ -11,18 +11,9 @@ use Rattle.mending.specs.declared.Stretch.{Stretch}
 abbrev pub lacks : Label → Bool
 lacks l = not (trusts l)
 
-abbrev pub one : Bool → ℕ
-one true = 1
-one false = 0
-
--- how many there are
-abbrev pub many : List Bool → ℕ
-many [] = 0
-many (b ∷ bs) = one b + many bs
-
 -- each drive that lacks the record gets it; six labels are read, and six drives synced
 abbrev pub stretch_of : List Label → Stretch
-stretch_of seen = record { fills = map lacks seen; asks = 12 + many (map lacks seen) }
+stretch_of seen = record { fills = map lacks seen; asks = 12 + count_by lacks seen }
 
 -- what six drives show
 abbrev pub labels_on : Drives → List Label

@@ -4,7 +4,7 @@
 ghost use Rattle.std.specs.Prelude.{◌≡◌, ◌≤◌};
 ghost use Rattle.mending.specs.Stretches.{stretch_of, StretchAsks};
 
-use labels::{Label, is_trusted};
+use labels::Label;
 
 // Which drives are filled, and how much is asked for: the six reads, a write to each that is filled, and the six syncs.
 #[derive(Clone, Copy)]
@@ -18,15 +18,12 @@ pub fn plan_stretch(seen: [Label; 6]) -> Stretch
     ensures is { result ≡ stretch_of seen }
     ensures short { result.asks ≤ 18 }
 {
-    let mut fills = [false; 6];
-    let mut asks = 12;
-    for i in 0..6 {
-        if !is_trusted(seen[i]) {
-            fills[i] = true;
-            asks += 1;
-        }
+    let fills = seen.map(|l| !l.is_trusted());
+    let writes = fills.iter().filter(|f| **f).count();
+    Stretch {
+        fills,
+        asks: 12 + writes as u16,
     }
-    Stretch { fills, asks }
 }
 
 // The root record's mending asks for just as much as is counted here.

@@ -1,35 +1,43 @@
--- A loop that looks for the first committed label.
+-- What `find_map` finds among labels, where each call says what was committed by one.
 -- Assumes nothing.
-use Rattle.std.proofs.Common.{◌≡◌, ℕ, zero, suc, ◌+◌, ◌<◌, ◌≤◌, List, [], ◌∷◌, length, get_or, drop, sym, refl, ap, ◌∙◌, add-one, arith}
+use Rattle.std.proofs.Common.{◌≡◌, ℕ, zero, suc, ◌+◌, ◌<◌, true, List, [], ◌∷◌, length, get_or, sym, refl, ap, ◌∙◌, Option, None, Some, arith}
+use denote.Param.Members.{Mut}
+use Rattle.std.specs.Fn.{Called}
+use Rattle.std.specs.Option.{MatchOption, IsSomeAnd, IfSome, option_or, option_map}
+use Rattle.std.specs.Iterator.Runs.{Run, ItemsMapTo, AllItemsGive, IsFirstToGive, CallKeepsClosure}
 use Rattle.register.specs.declared.Payload.{Payload}
 use Rattle.labels.specs.declared.Label.{Label}
-use Rattle.labels.specs.declared.Label.TheVariants as label
-use Rattle.labels.specs.declared.Record.TheVariants.{Empty, Committed}
+use Rattle.labels.specs.declared.Label.TheVariants.{Missing}
+use Rattle.labels.specs.Times.{committed_on}
 use Rattle.recorder.specs.Recording.{lowest_in}
 
-pub lowest_here : (ls : List Label) (i : ℕ) (p : Payload) → i < length ls → get_or ls i label.Missing ≡ label.Committed p → lowest_in (drop i ls) ≡ Committed p
-lowest_here [] i p h e = absurd (omega arith)
-lowest_here (l ∷ ls) zero p h e = ap (λ m. lowest_in (m ∷ ls)) e
-lowest_here (l ∷ ls) (suc i) p h e = lowest_here ls i p (omega arith) e
+none_in : (ls : List Label) → ((k : ℕ) → k < length ls → committed_on (get_or ls k Missing) ≡ None) → lowest_in ls ≡ None
+none_in [] h = refl
+none_in (l ∷ ls) h = ap (λ o. option_or o (lowest_in ls)) (h 0 (omega arith)) ∙ none_in ls (λ k i. h (suc k) (omega arith))
 
-passes : (l : Label) (ls : List Label) → ((p : Payload) → l ≡ label.Committed p → ⊥) → lowest_in (l ∷ ls) ≡ lowest_in ls
-passes label.Missing ls h = refl
-passes label.Blank ls h = refl
-passes label.Rebuilding ls h = refl
-passes label.Empty ls h = refl
-passes (label.Committed p) ls h = absurd (h p refl)
-passes label.Foreign ls h = refl
+first_in :
+    (ls : List Label) (i : ℕ) (y : Payload) →
+    i < length ls → committed_on (get_or ls i Missing) ≡ Some y → ((k : ℕ) → k < i → committed_on (get_or ls k Missing) ≡ None) → lowest_in ls ≡ Some y
+first_in [] i y h e n = absurd (omega arith)
+first_in (l ∷ ls) zero y h e n = ap (λ o. option_or o (lowest_in ls)) e
+first_in (l ∷ ls) (suc i) y h e n = ap (λ o. option_or o (lowest_in ls)) (n 0 (omega arith)) ∙ first_in ls i y (omega arith) e (λ k j. n (suc k) (omega arith))
 
-past_at : (ls : List Label) (i : ℕ) → i < length ls → ((p : Payload) → get_or ls i label.Missing ≡ label.Committed p → ⊥) → lowest_in (drop i ls) ≡ lowest_in (drop (suc i) ls)
-past_at [] i h e = absurd (omega arith)
-past_at (l ∷ ls) zero h e = passes l ls e
-past_at (l ∷ ls) (suc i) h e = past_at ls i (omega arith) e
+module _ {A F : Type 0} (v : A → Label) (g : Mut F (A × Unit {0}) (Option Payload)) (f : F)
+    (says : (x : A) (y : Option Payload) → Called g f (x, tt) y f → y ≡ committed_on (v x)) where
+  on_some : (o : Option A) (l : Label) (y : Option Payload) → option_map v o ≡ Some l → IsSomeAnd o (λ x. Called g f (x, tt) y f) → committed_on l ≡ y
+  on_some None l y e h = absurd h
+  on_some (Some x) l y e h = let w : v x ≡ l = cc in sym (says x y h ∙ ap committed_on w)
 
-pub lowest_past : (ls : List Label) (i : ℕ) → i < length ls → ((p : Payload) → get_or ls i label.Missing ≡ label.Committed p → ⊥) → lowest_in (drop i ls) ≡ lowest_in (drop (i + 1) ls)
-lowest_past ls i h e = past_at ls i h e ∙ ap (λ k. lowest_in (drop k ls)) (sym (add-one i))
+  if_some : (o : Option A) (l : Label) (y : Option Payload) → option_map v o ≡ Some l → IfSome o (λ x. Called g f (x, tt) y f) → committed_on l ≡ y
+  if_some None l y e h = cc
+  if_some (Some x) l y e h = on_some (Some x) l y e h
 
-pub lowest_none : (ls : List Label) (i : ℕ) → length ls ≤ i → lowest_in (drop i ls) ≡ Empty
-lowest_none [] zero h = refl
-lowest_none [] (suc i) h = refl
-lowest_none (l ∷ ls) zero h = absurd (omega arith)
-lowest_none (l ∷ ls) (suc i) h = lowest_none ls i (omega arith)
+  pub finds :
+      {S : Type 0} {steps : S → Option A → S → Type 0} (ls : List Label) (r : Option Payload) (p : Run steps) → ItemsMapTo p v ls → CallKeepsClosure g f →
+      MatchOption r ((p.whole ≡ true) × AllItemsGive p g f None) (λ y. (i : ℕ) × (i < p.len) × (p.len ≡ i + 1) × IsFirstToGive p g f (Some y) None i) →
+      r ≡ lowest_in ls
+  finds ls None p m k (w, h) = let n = m.1 w in sym (none_in ls (λ i l. if_some (p.at i) (get_or ls i Missing) None (m.2 i Missing (omega arith)) (h k i)))
+  finds ls (Some y) p m k (i, l, n, h) =
+      let a = m.0 in
+      sym (first_in ls i y (omega arith) (on_some (p.at i) (get_or ls i Missing) (Some y) (m.2 i Missing l) (h k).0)
+      (λ j b. on_some (p.at j) (get_or ls j Missing) None (m.2 j Missing (omega arith)) ((h k).1 j b)))

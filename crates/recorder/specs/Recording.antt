@@ -1,6 +1,7 @@
 -- The root record in code: what its steps do, and the machine that they are, with the calls of a register.
 -- Assumes nothing.
-use Rattle.std.specs.Prelude.{◌≡◌, ℕ, ◌-◌, ◌≤◌, Bool, true, false, cond, List, [], ◌∷◌, map, replicate, ◌==◌, slice_index_or, slice_set}
+use Rattle.std.specs.Option.{option_or}
+use Rattle.std.specs.Prelude.{◌≡◌, ℕ, ◌-◌, ◌≤◌, Bool, true, false, cond, List, [], ◌∷◌, map, replicate, ◌==◌, slice_index_or, slice_set, Option, None, Some, unwrap_or}
 use Rattle.drives.specs.Machines.{Machine, Keeps, Within}
 use Rattle.drives.specs.Layers.{gives, asks, Layer, over}
 use Rattle.register.specs.declared.Payload.{Payload}
@@ -12,9 +13,7 @@ use Rattle.register.specs.Register.{none, kept, register}
 use Rattle.root.specs.Root as root
 use Rattle.labels.specs.declared.Label.{Label}
 use Rattle.labels.specs.declared.Label.TheVariants as label
-use Rattle.labels.specs.declared.Record.{Record}
-use Rattle.labels.specs.declared.Record.TheVariants.{Empty, Committed}
-use Rattle.labels.specs.Times.{Time, time_of, timed, label_in, label_bytes, trusts, record_as}
+use Rattle.labels.specs.Times.{Time, time_of, timed, label_in, label_bytes, trusts, committed_on, record_as}
 use Rattle.mending.specs.Stretches.{stretch_of}
 use Rattle.steps.specs.Steps.{Held, Stepped, Stepping, Ample, placed, machine_of}
 use Rattle.steps.specs.declared.Lent.{Lent}
@@ -30,7 +29,7 @@ use Rattle.recorder.specs.declared.Recorder.{Recorder}
 -- THE STEPS
 
 abbrev pub moved : Phase → Recorder → Recorder
-moved p r = record { drives = r.drives; gets = r.gets; current = r.current; task = r.task; phase = p }
+moved p r = record { current = r.current; task = r.task; phase = p }
 
 abbrev pub noted : Drives → ℕ → Label → Drives
 noted d i l = record { seen = slice_set d.seen i l }
@@ -39,52 +38,44 @@ abbrev pub unseen : Drives
 unseen = record { seen = replicate 6 label.Missing }
 
 -- the record that is committed on the lowest drive, if any is
-abbrev pub lowest_in : List Label → Record
-lowest_in [] = Empty
-lowest_in (label.Missing ∷ ls) = lowest_in ls
-lowest_in (label.Blank ∷ ls) = lowest_in ls
-lowest_in (label.Rebuilding ∷ ls) = lowest_in ls
-lowest_in (label.Empty ∷ ls) = lowest_in ls
-lowest_in (label.Committed p ∷ ls) = Committed p
-lowest_in (label.Foreign ∷ ls) = lowest_in ls
+abbrev pub lowest_in : List Label → Option Payload
+lowest_in [] = None
+lowest_in (l ∷ ls) = option_or (committed_on l) (lowest_in ls)
 
 -- where nothing is committed, every drive is told so
-abbrev pub gets_at_first : Record → List Label → List Bool
-gets_at_first Empty ls = replicate 6 true
-gets_at_first (Committed p) ls = map trusts ls
+abbrev pub gets_at_first : Option Payload → List Label → List Bool
+gets_at_first None ls = replicate 6 true
+gets_at_first (Some p) ls = map trusts ls
 
 -- once all labels are read: the record that is to be written, and which drives get it
-abbrev pub decided : Task → Recorder → Recorder
-decided Opens r = record { drives = r.drives; gets = gets_at_first (lowest_in r.drives.seen) r.drives.seen; current = lowest_in r.drives.seen; task = r.task; phase = Writing 6 }
-decided (Sets p) r = record { drives = r.drives; gets = map trusts r.drives.seen; current = Committed p; task = r.task; phase = Writing 6 }
-decided Gets r = moved Over r
-decided Mends r = record { drives = r.drives; gets = (stretch_of r.drives.seen).fills; current = r.current; task = r.task; phase = Writing 6 }
+abbrev pub decided : Task → Drives → Recorder → Recorder
+decided Opens d r = record { current = lowest_in d.seen; task = r.task; phase = Writing 6 (gets_at_first (lowest_in d.seen) d.seen) }
+decided (Sets p) d r = record { current = Some p; task = r.task; phase = Writing 6 (map trusts d.seen) }
+decided Gets d r = moved Over r
+decided Mends d r = moved (Writing 6 (stretch_of d.seen).fills) r
 
 abbrev pub goes : Recorder → Lent → Ask → Stepped Recorder
 goes r lent a = record { me = r; lent = lent; ask = a }
 
 -- all labels are to be read, whatever was seen before
 abbrev pub read_all : Recorder → Lent → Stepped Recorder
-read_all r lent = goes (record { drives = unseen; gets = r.gets; current = r.current; task = r.task; phase = Reading 5 }) lent (Read 5 0)
-
-abbrev pub sees : ℕ → Label → Recorder → Recorder
-sees i l r = record { drives = noted r.drives i l; gets = r.gets; current = r.current; task = r.task; phase = r.phase }
+read_all r lent = goes (moved (Reading 5 unseen) r) lent (Read 5 0)
 
 -- the label of drive i has come
-abbrev pub read_on : ℕ → Recorder → Lent → Label → Stepped Recorder
-read_on i r lent l =
+abbrev pub read_on : ℕ → Drives → Recorder → Lent → Label → Stepped Recorder
+read_on i d r lent l =
     cond (i == 0)
-    (goes (decided r.task (sees i l r)) lent Again)
-    (goes (moved (Reading (i - 1)) (sees i l r)) lent (Read (i - 1) 0))
+    (goes (decided r.task (noted d i l) r) lent Again)
+    (goes (moved (Reading (i - 1) (noted d i l)) r) lent (Read (i - 1) 0))
 
--- the drives below n are still to be written to
-abbrev pub write_on : ℕ → Recorder → Lent → Stepped Recorder
-write_on n r lent =
+-- the drives below n are still to be written to, if they get the record
+abbrev pub write_on : ℕ → List Bool → Recorder → Lent → Stepped Recorder
+write_on n gets r lent =
     cond (n == 0)
     (goes (moved (Syncing 6) r) lent Again)
-    (cond (slice_index_or r.gets (n - 1) false)
-    (goes (moved (Writing (n - 1)) r) (placed 0 (label_bytes r.current) lent) (Write (n - 1) 0 0))
-    (goes (moved (Writing (n - 1)) r) lent Again))
+    (cond (slice_index_or gets (n - 1) false)
+    (goes (moved (Writing (n - 1) gets) r) (placed 0 (label_bytes r.current) lent) (Write (n - 1) 0 0))
+    (goes (moved (Writing (n - 1) gets) r) lent Again))
 
 -- the drives below n are still to be synced
 abbrev pub sync_on : ℕ → Recorder → Lent → Stepped Recorder
@@ -95,27 +86,23 @@ sync_on n r lent =
 
 abbrev pub step_in : Phase → Recorder → Lent → List ℕ → Stepped Recorder
 step_in Begun r lent got = read_all r lent
-step_in (Reading i) r lent got = read_on i r lent (label_in got)
-step_in (Writing n) r lent got = write_on n r lent
+step_in (Reading i d) r lent got = read_on i d r lent (label_in got)
+step_in (Writing n gets) r lent got = write_on n gets r lent
 step_in (Syncing n) r lent got = sync_on n r lent
 step_in Over r lent got = goes r lent Done
 
 abbrev pub starts_on : Call → Recorder → Recorder
-starts_on (Set p) r = record { drives = r.drives; gets = r.gets; current = r.current; task = Sets (kept p); phase = Begun }
-starts_on Get r = record { drives = r.drives; gets = r.gets; current = r.current; task = Gets; phase = Over }
+starts_on (Set p) r = record { current = r.current; task = Sets (kept p); phase = Begun }
+starts_on Get r = record { current = r.current; task = Gets; phase = Over }
 
-abbrev pub payload_in : Record → Payload
-payload_in Empty = none
-payload_in (Committed p) = p
-
-abbrev pub said_by : Task → Record → Reply
+abbrev pub said_by : Task → Option Payload → Reply
 said_by Opens c = reply.Done
 said_by (Sets p) c = reply.Done
-said_by Gets c = reply.Is (payload_in c)
+said_by Gets c = reply.Is (unwrap_or c none)
 said_by Mends c = reply.Done
 
 abbrev pub fresh : Recorder
-fresh = record { drives = unseen; gets = replicate 6 false; current = Empty; task = Opens; phase = Begun }
+fresh = record { current = None; task = Opens; phase = Begun }
 
 abbrev pub recorder_code : Stepping Call Reply Recorder
 recorder_code =
@@ -123,7 +110,7 @@ recorder_code =
       steps = λ h got. step_in h.me.phase h.me h.lent got;
       opening = λ size. fresh;
       starts = starts_on;
-      mending = λ r. record { drives = r.drives; gets = r.gets; current = r.current; task = Mends; phase = Begun };
+      mending = λ r. record { current = r.current; task = Mends; phase = Begun };
       says = λ r. said_by r.task r.current;
       whole = λ r. true;
     }

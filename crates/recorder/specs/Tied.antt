@@ -1,13 +1,15 @@
 -- The code of the root record is the machine to be read, request by request.
 -- Assumes nothing.
-use Rattle.std.specs.Prelude.{◌≡◌, ℕ, suc, Bool, true, false, cond, not, List, [], ◌∷◌, map, length, slice_index_or}
+use Rattle.std.specs.Prelude.{◌≡◌, ℕ, suc, Bool, true, false, cond, not, List, [], ◌∷◌, map, length, slice_index_or, Option, None, Some, unwrap_or}
 use Rattle.std.proofs.Math.Path.{refl, subst⁻¹}
 use Rattle.std.proofs.Common.{◌∙◌, ap, subst, inl, inr, arith}
-use Rattle.std.proofs.Math.Option.{Option, none, some}
+use Rattle.std.proofs.Math.Option as math
+use Rattle.std.proofs.Math.Option.{none, some}
 use Rattle.drives.specs.Drives.{put, Io, answer, write, then'}
 use Rattle.drives.specs.Layers.{gives, through}
 use Rattle.crash.specs.Loops.{on_each, write_if, sync_all, gather, read_all}
 use Rattle.register.specs.Register.{kept}
+use Rattle.register.specs.Register as register
 use Rattle.register.specs.declared.Payload.{Payload}
 use Rattle.register.specs.declared.Call.{Call}
 use Rattle.register.specs.declared.Reply.{Reply}
@@ -16,8 +18,7 @@ use Rattle.register.specs.declared.Call.TheVariants.{Set, Get}
 use Rattle.root.specs.Root as root
 use Rattle.root.specs.Root.{settle, lowest, or_else, opening, does}
 use Rattle.labels.specs.declared.Label.{Label}
-use Rattle.labels.specs.declared.Record.{Record}
-use Rattle.labels.specs.declared.Record.TheVariants.{Empty, Committed}
+use Rattle.labels.specs.declared.Label.TheVariants.{Missing}
 use Rattle.labels.specs.Times.{Time, time_of, timed, label_of, label_in, label_bytes, trusts, record_for, record_as}
 use Rattle.labels.proofs.Lawful.{time_of_lem, timed_lawful}
 use Rattle.labels.proofs.Shows.{trust_is}
@@ -28,20 +29,28 @@ use Rattle.steps.specs.declared.Lent.{Lent}
 use Rattle.steps.specs.declared.Ask.TheVariants.{Write, Again, Done}
 use Rattle.steps.specs.Does.{Does, answers, reads, writes, syncs, again, follows}
 use Rattle.steps.proofs.Lents.{unused_ample, placed_ample, sector_placed}
+use Rattle.recorder.specs.declared.Drives.{Drives}
 use Rattle.recorder.specs.declared.Task.{Task}
 use Rattle.recorder.specs.declared.Task.TheVariants.{Opens, Sets, Mends}
 use Rattle.recorder.specs.declared.Phase.TheVariants.{Begun, Reading, Writing, Syncing, Over}
 use Rattle.recorder.specs.declared.Recorder.{Recorder}
-use Rattle.recorder.specs.Recording.{moved, decided, lowest_in, gets_at_first, goes, starts_on, payload_in, said_by, reply_as, recorder_code, recorded, RecorderSame}
+use Rattle.recorder.specs.Recording.{moved, decided, lowest_in, gets_at_first, goes, starts_on, said_by, reply_as, recorder_code, recorded, RecorderSame}
 
 -- WHAT A SECTOR SHOWS IS WHAT THE MACHINE SEES IN IT
 
 -- what is committed, as a record
-abbrev found : Option Time → Record
-found none = Empty
-found (some t) = Committed (record { time = t.ms })
+abbrev found : math.Option Time → Option Payload
+found none = None
+found (some t) = Some (record { time = t.ms })
 
-lowest_of : (o : Option (root.Label Time)) (ls : List Label) (p : Option Time) → lowest_in ls ≡ found p → lowest_in (label_of o ∷ ls) ≡ found (or_else (root.committed_of (root.record_of o)) p)
+-- the code finds in labels what the machine finds
+record Finds (ls : List Label) (p : math.Option Time) : Type 0 where
+  is : lowest_in ls ≡ found p
+
+finds_none : Finds [] none
+finds_none = record { is = refl }
+
+lowest_of : (o : math.Option (root.Label Time)) (ls : List Label) (p : math.Option Time) → lowest_in ls ≡ found p → lowest_in (label_of o ∷ ls) ≡ found (or_else (root.committed_of (root.record_of o)) p)
 lowest_of none ls p e = e
 lowest_of (some root.missing) ls p e = e
 lowest_of (some root.blank) ls p e = e
@@ -49,8 +58,8 @@ lowest_of (some root.rebuilding) ls p e = e
 lowest_of (some (root.has root.empty)) ls p e = e
 lowest_of (some (root.has (root.committed t))) ls p e = refl
 
-lowest_is : (b : List ℕ) (ls : List Label) (p : Option Time) → lowest_in ls ≡ found p → lowest_in (label_in b ∷ ls) ≡ found (or_else (root.committed_in timed b) p)
-lowest_is b = lowest_of (timed.decode b)
+finds_more : (b : List ℕ) {ls : List Label} {p : math.Option Time} → Finds ls p → Finds (label_in b ∷ ls) (or_else (root.committed_in timed b) p)
+finds_more b {ls} {p} f = record { is = lowest_of (timed.decode b) ls p f.is }
 
 -- WHAT IS WRITTEN IS THE LABEL OF THE MACHINE'S RECORD
 
@@ -70,7 +79,7 @@ abbrev f : Held Recorder → List ℕ → Stepped Recorder
 f = recorder_code.steps
 
 -- from the writes on, with a record m and a test t of drives
-module _ {A B : Type 0} {S : Held Recorder → B → Type 0} (g : A → Io B) (a : A) (t : ℕ → Bool) (m : root.Record Time) (r : Recorder)
+module _ {A B : Type 0} {S : Held Recorder → B → Type 0} (g : A → Io B) (a : A) (t : ℕ → Bool) (m : root.Record Time) (gets : List Bool) (r : Recorder)
     (is : r.current ≡ record_as m) (done : (lent : Lent) → Ample lent → Goes f S 1 (goes (moved Over r) lent Done) (g a)) where
   abbrev bytes : List ℕ
   bytes = timed.encode (root.has m)
@@ -85,11 +94,11 @@ module _ {A B : Type 0} {S : Held Recorder → B → Type 0} (g : A → Io B) (a
   -- drive i gets the record, or does not
   write_one :
       (n i : ℕ) (p : Io A) (v : Bool) → v ≡ t i →
-      ((lent : Lent) → Ample lent → Does f S n (f (record { me = moved (Writing i) r; lent = lent }) []) p g) →
+      ((lent : Lent) → Ample lent → Does f S n (f (record { me = moved (Writing i gets) r; lent = lent }) []) p g) →
       (lent : Lent) → Ample lent →
-      Does f S (suc n) (cond v (goes (moved (Writing i) r) (placed 0 (label_bytes r.current) lent) (Write i 0 0)) (goes (moved (Writing i) r) lent Again)) (write_if t 0 (λ j. bytes) i p) g
+      Does f S (suc n) (cond v (goes (moved (Writing i gets) r) (placed 0 (label_bytes r.current) lent) (Write i 0 0)) (goes (moved (Writing i gets) r) lent Again)) (write_if t 0 (λ j. bytes) i p) g
   write_one n i p v e next lent h =
-      subst (λ u. Does f S (suc n) (cond v (goes (moved (Writing i) r) (placed 0 (label_bytes r.current) lent) (Write i 0 0)) (goes (moved (Writing i) r) lent Again)) (cond u (write i 0 bytes p) p) g) e (go v)
+      subst (λ u. Does f S (suc n) (cond v (goes (moved (Writing i gets) r) (placed 0 (label_bytes r.current) lent) (Write i 0 0)) (goes (moved (Writing i gets) r) lent Again)) (cond u (write i 0 bytes p) p) g) e (go v)
     where
       label : label_bytes r.current ≡ bytes
       label = ap label_bytes is ∙ bytes_are m
@@ -97,13 +106,13 @@ module _ {A B : Type 0} {S : Held Recorder → B → Type 0} (g : A → Io B) (a
       long : length (label_bytes r.current) ≡ 512
       long = ap length label ∙ record_long m
 
-      go : (u : Bool) → Does f S (suc n) (cond u (goes (moved (Writing i) r) (placed 0 (label_bytes r.current) lent) (Write i 0 0)) (goes (moved (Writing i) r) lent Again)) (cond u (write i 0 bytes p) p) g
+      go : (u : Bool) → Does f S (suc n) (cond u (goes (moved (Writing i gets) r) (placed 0 (label_bytes r.current) lent) (Write i 0 0)) (goes (moved (Writing i gets) r) lent Again)) (cond u (write i 0 bytes p) p) g
       go true = writes (sector_placed lent h 0 (label_bytes r.current) long ∙ label) (next (placed 0 (label_bytes r.current) lent) (placed_ample lent h 0 (label_bytes r.current)))
       go false = again (next lent h)
 
   writes_all :
-      slice_index_or r.gets 0 false ≡ t 0 → slice_index_or r.gets 1 false ≡ t 1 → slice_index_or r.gets 2 false ≡ t 2 → slice_index_or r.gets 3 false ≡ t 3 → slice_index_or r.gets 4 false ≡ t 4 → slice_index_or r.gets 5 false ≡ t 5 →
-      (lent : Lent) → Ample lent → Does f S 14 (f (record { me = moved (Writing 6) r; lent = lent }) []) (on_each 6 (write_if t 0 (λ j. bytes)) syncing) g
+      slice_index_or gets 0 false ≡ t 0 → slice_index_or gets 1 false ≡ t 1 → slice_index_or gets 2 false ≡ t 2 → slice_index_or gets 3 false ≡ t 3 → slice_index_or gets 4 false ≡ t 4 → slice_index_or gets 5 false ≡ t 5 →
+      (lent : Lent) → Ample lent → Does f S 14 (f (record { me = moved (Writing 6 gets) r; lent = lent }) []) (on_each 6 (write_if t 0 (λ j. bytes)) syncing) g
   unfolding on_each
   writes_all e₀ e₁ e₂ e₃ e₄ e₅ =
       write_one 13 5 _ _ e₅ (write_one 12 4 _ _ e₄ (write_one 11 3 _ _ e₃ (write_one 10 2 _ _ e₂ (write_one 9 1 _ _ e₁ (write_one 8 0 _ _ e₀ syncs_all)))))
@@ -124,16 +133,21 @@ abbrev labels_in : Six → List Label
 labels_in x = label_in x.b₀ ∷ label_in x.b₁ ∷ label_in x.b₂ ∷ label_in x.b₃ ∷ label_in x.b₄ ∷ label_in x.b₅ ∷ []
 
 -- all labels are read; it is decided what to write, and nothing is written yet
-abbrev saw : List Label → Recorder → Recorder
-saw ls r = record { drives = record { seen = ls }; gets = r.gets; current = r.current; task = r.task; phase = Reading 0 }
+abbrev saw : Six → Drives
+saw x = record { seen = labels_in x }
 
-abbrev ready : Six → List Bool → Record → Task → Recorder
-ready x gs c k = record { drives = record { seen = labels_in x }; gets = gs; current = c; task = k; phase = Writing 6 }
+-- the recorder as it was until the last label came
+abbrev reading : Six → Recorder → Recorder
+reading x r =
+    moved (Reading 0 (record { seen = Missing ∷ label_in x.b₁ ∷ label_in x.b₂ ∷ label_in x.b₃ ∷ label_in x.b₄ ∷ label_in x.b₅ ∷ [] })) r
+
+abbrev ready : List Bool → Option Payload → Task → Recorder
+ready gets c k = record { current = c; task = k; phase = Writing 6 gets }
 
 -- from the beginning on: all labels are read, and then it is decided
 reads_all :
     {A B : Type 0} {S : Held Recorder → B → Type 0} (g : A → Io B) (k : (ℕ → List ℕ) → Io A) (r : Recorder) (lent : Lent) →
-    ((x : Six) → Does f S 15 (goes (decided r.task (saw (labels_in x) r)) lent Again) (k (sectors x)) g) →
+    ((x : Six) → Does f S 15 (goes (decided r.task (saw x) (reading x r)) lent Again) (k (sectors x)) g) →
     Does f S 21 (f (record { me = moved Begun r; lent = lent }) []) (read_all 0 k) g
 unfolding gather
 reads_all g k r lent next =
@@ -151,25 +165,26 @@ opened : (size : ℕ) (m : root.Record Time) (r : Recorder) → r.current ≡ re
 unfolding then' through
 opened size m r e lent h = Goes.ends (e, h)
 
-opens_by : (size : ℕ) (x : Six) (o : Option Time) → Does f (Same size) 14 (f (record { me = ready x (gets_at_first (found o) (labels_in x)) (found o) Opens; lent = unused }) []) (opening timed o (sectors x)) G
+opens_by : (size : ℕ) (x : Six) (o : math.Option Time) → Does f (Same size) 14 (f (record { me = ready (gets_at_first (found o) (labels_in x)) (found o) Opens; lent = unused }) []) (opening timed o (sectors x)) G
 unfolding opening settle
 opens_by size x none =
-    let r = ready x (gets_at_first Empty (labels_in x)) Empty Opens in
-    writes_all G root.empty (λ i. true) root.empty r refl (opened size root.empty (moved Over r) refl) refl refl refl refl refl refl unused unused_ample
+    let gets = gets_at_first None (labels_in x) in
+    let r = ready gets None Opens in
+    writes_all G root.empty (λ i. true) root.empty gets r refl (opened size root.empty (moved Over r) refl) refl refl refl refl refl refl unused unused_ample
 opens_by size x (some v) =
-    let r = ready x (map trusts (labels_in x)) (record_as (root.committed v)) Opens in
-    writes_all G (root.committed v) (λ i. root.trusted timed (sectors x i)) (root.committed v) r refl (opened size (root.committed v) (moved Over r) refl)
+    let gets = map trusts (labels_in x) in
+    let r = ready gets (record_as (root.committed v)) Opens in
+    writes_all G (root.committed v) (λ i. root.trusted timed (sectors x i)) (root.committed v) gets r refl (opened size (root.committed v) (moved Over r) refl)
     (trust_is x.b₀) (trust_is x.b₁) (trust_is x.b₂) (trust_is x.b₃) (trust_is x.b₄) (trust_is x.b₅) unused unused_ample
 
-opens_to : (size : ℕ) (x : Six) (o : Option Time) (c : Record) → c ≡ found o → Does f (Same size) 14 (f (record { me = ready x (gets_at_first c (labels_in x)) c Opens; lent = unused }) []) (opening timed o (sectors x)) G
-opens_to size x o c e = subst⁻¹ (λ d. Does f (Same size) 14 (f (record { me = ready x (gets_at_first d (labels_in x)) d Opens; lent = unused }) []) (opening timed o (sectors x)) G) e (opens_by size x o)
+opens_to : (size : ℕ) (x : Six) (o : math.Option Time) (c : Option Payload) → c ≡ found o → Does f (Same size) 14 (f (record { me = ready (gets_at_first c (labels_in x)) c Opens; lent = unused }) []) (opening timed o (sectors x)) G
+opens_to size x o c e = subst⁻¹ (λ d. Does f (Same size) 14 (f (record { me = ready (gets_at_first d (labels_in x)) d Opens; lent = unused }) []) (opening timed o (sectors x)) G) e (opens_by size x o)
 
 opens_all : (size : ℕ) → Does f (Same size) 21 (first recorder_code (recorder_code.opening size) unused) ((root.machine timed).opens size) G
 unfolding lowest
 opens_all size =
     reads_all G (λ fs. opening timed (lowest timed 6 none fs) fs) (recorder_code.opening size) unused
-    (λ x. again (opens_to size x _ _
-    (lowest_is x.b₀ _ _ (lowest_is x.b₁ _ _ (lowest_is x.b₂ _ _ (lowest_is x.b₃ _ _ (lowest_is x.b₄ _ _ (lowest_is x.b₅ [] none refl))))))))
+    (λ x. again (opens_to size x _ _ (finds_more x.b₀ (finds_more x.b₁ (finds_more x.b₂ (finds_more x.b₃ (finds_more x.b₄ (finds_more x.b₅ finds_none)))))).is))
 
 -- CALLS
 
@@ -196,16 +211,17 @@ was_set size t r p e k lent h = Goes.ends (ap (λ j. said_by j r.current) k, (e,
 
 module _ (size : ℕ) (h : Held Recorder) (m : recorded.Mem) (same : Same size h m) where
   set_to : (p : Payload) (x : Six) →
-      Does f (AfterCall size) 14 (f (record { me = ready x (map trusts (labels_in x)) (Committed (kept p)) (Sets (kept p)); lent = h.lent }) [])
+      Does f (AfterCall size) 14 (f (record { me = ready (map trusts (labels_in x)) (Some (kept p)) (Sets (kept p)); lent = h.lent }) [])
       (settle timed (root.trusted timed) (root.committed (time_of p.time)) (record { reply = root.Done; mem = root.committed (time_of p.time) }) (sectors x)) (λ y. then' (Q y) H)
   unfolding settle
   set_to p x =
       let v = time_of p.time in
-      let r = ready x (map trusts (labels_in x)) (Committed (kept p)) (Sets (kept p)) in
-      writes_all (λ y. then' (Q y) H) (record { reply = root.Done; mem = root.committed v }) (λ i. root.trusted timed (sectors x i)) (root.committed v) r refl (was_set size v (moved Over r) (kept p) refl refl)
+      let gets = map trusts (labels_in x) in
+      let r = ready gets (Some (kept p)) (Sets (kept p)) in
+      writes_all (λ y. then' (Q y) H) (record { reply = root.Done; mem = root.committed v }) (λ i. root.trusted timed (sectors x i)) (root.committed v) gets r refl (was_set size v (moved Over r) (kept p) refl refl)
       (trust_is x.b₀) (trust_is x.b₁) (trust_is x.b₂) (trust_is x.b₃) (trust_is x.b₄) (trust_is x.b₅) h.lent same.1
 
-  got : (k : root.Record Time) → reply.Is (payload_in (record_as k)) ≡ reply_as (root.Payload (root.payload timed k))
+  got : (k : root.Record Time) → reply.Is (unwrap_or (record_as k) register.none) ≡ reply_as (root.Payload (root.payload timed k))
   got root.empty = refl
   got (root.committed t) = refl
 
@@ -214,7 +230,7 @@ module _ (size : ℕ) (h : Held Recorder) (m : recorded.Mem) (same : Same size h
   calls (Set p) =
       (follows Q (reads_all (λ y. then' (Q y) H) (settle timed (root.trusted timed) (root.committed (time_of p.time)) (record { reply = root.Done; mem = root.committed (time_of p.time) }))
       (starts_on (Set p) h.me) h.lent (λ x. again (set_to p x)))).go
-  calls Get = Goes.ends (ap (λ c. reply.Is (payload_in c)) same.0 ∙ got m.below, same)
+  calls Get = Goes.ends (ap (λ c. reply.Is (unwrap_or c register.none)) same.0 ∙ got m.below, same)
 
   -- MENDING
 
@@ -228,11 +244,11 @@ module _ (size : ℕ) (h : Held Recorder) (m : recorded.Mem) (same : Same size h
   AfterMending g x = (recorder_code.whole g.me ≡ x.whole) × Same size g x.mem
 
   mends_to : (x : Six) →
-      Does f AfterMending 14 (f (record { me = ready x (map lacks (labels_in x)) h.me.current Mends; lent = h.lent }) [])
+      Does f AfterMending 14 (f (record { me = ready (map lacks (labels_in x)) h.me.current Mends; lent = h.lent }) [])
       (settle timed (root.untrusted timed) m.below (record { whole = true; mem = m.below }) (sectors x)) W
   unfolding settle
   mends_to x =
-      writes_all W (record { whole = true; mem = m.below }) (λ i. root.untrusted timed (sectors x i)) m.below (ready x (map lacks (labels_in x)) h.me.current Mends) same.0
+      writes_all W (record { whole = true; mem = m.below }) (λ i. root.untrusted timed (sectors x i)) m.below (map lacks (labels_in x)) (ready (map lacks (labels_in x)) h.me.current Mends) same.0
       (λ lent a. Goes.ends (refl, (same.0, a)))
       (ap not (trust_is x.b₀)) (ap not (trust_is x.b₁)) (ap not (trust_is x.b₂)) (ap not (trust_is x.b₃)) (ap not (trust_is x.b₄)) (ap not (trust_is x.b₅)) h.lent same.1
 

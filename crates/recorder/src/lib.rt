@@ -4,10 +4,10 @@
 ghost use Rattle.std.specs.Prelude.{◌≡◌, false, map, slice_index_or};
 ghost use Rattle.labels.specs.Times.{trusts};
 ghost use Rattle.steps.specs.declared.Lent.{Lent};
-ghost use Rattle.recorder.specs.Recording.{lowest_in, gets_at_first, noted, decided, goes, read_all, read_on, write_on, sync_on, payload_in, fresh, budget, recorder_code, recorded, RecorderSame, RecorderStands};
+ghost use Rattle.recorder.specs.Recording.{lowest_in, gets_at_first, noted, decided, goes, read_all, read_on, write_on, sync_on, fresh, budget, recorder_code, recorded, RecorderSame, RecorderStands};
 ghost use Rattle.recorder.specs.Tied.{recorder_tied};
 
-use labels::{Label, Record, is_trusted, read_label, write_label};
+use labels::{Label, read_label, write_label};
 use mending::plan_stretch;
 use register::{Call, Payload, Reply};
 use steps::machines::Stepper;
@@ -28,23 +28,20 @@ pub enum Task {
     Mends,
 }
 
-// How far it is. First all labels are read, then the record is written, then all drives are synced, each time the highest drive first.
+// How far it is. First all labels are read, then the record is written to the drives that get it, then all drives are synced, each time the highest drive first.
 #[derive(Clone, Copy)]
 pub enum Phase {
     Begun,
-    Reading { drive: u8 },
-    Writing { left: u8 },
+    Reading { drive: u8, drives: Drives },
+    Writing { left: u8, gets: [bool; 6] },
     Syncing { left: u8 },
     Over,
 }
 
 #[derive(Clone, Copy)]
 pub struct Recorder {
-    pub drives: Drives,
-    // which drives get the record
-    pub gets: [bool; 6],
-    // the record that all trusted drives have, or will have once the task is done
-    pub current: Record,
+    // the record that all trusted drives have, or will have once the task is done: what was committed, if anything was
+    pub current: Option<Payload>,
     pub task: Task,
     pub phase: Phase,
 }
@@ -52,64 +49,45 @@ pub struct Recorder {
 // How many requests are enough for whatever a recorder is asked: 18 of the drives, and three steps that ask for nothing.
 pub const BUDGET: u64 = 21;
 
-// The drives, once drive i has shown a label.
-fn note(d: Drives, i: u8, l: Label) -> Drives
-    ensures { result ≡ noted d i l }
-{
-    let mut seen = d.seen;
-    if i < 6 {
-        seen[i as usize] = l;
-    }
-    Drives { seen }
-}
-
 // Whether drive i gets the record.
 fn is_marked(gets: &[bool; 6], i: u8) -> bool
     ensures { result ≡ slice_index_or gets.now i false }
 {
-    if i < 6 { gets[i as usize] } else { false }
+    gets.get(usize::from(i)).copied().unwrap_or(false)
 }
 
-// The record that is committed on the lowest drive, if any is. Which one is taken does not matter, as long as all drives come to agree.
-fn lowest(seen: [Label; 6]) -> Record
-    ensures { result ≡ lowest_in seen }
-{
-    for i in 0..6 {
-        if let Label::Committed(p) = seen[i] {
-            return Record::Committed(p);
+impl Drives {
+    // Drive i has shown a label. An index and no `get_mut`, of which std does not say what is left in the array.
+    fn note(&mut self, i: u8, l: Label)
+        ensures { self.new ≡ noted self.old i l }
+    {
+        if i < 6 {
+            self.seen[usize::from(i)] = l;
         }
     }
-    Record::Empty
-}
 
-fn trusted(seen: [Label; 6]) -> [bool; 6]
-    ensures { result ≡ map trusts seen }
-{
-    let mut gets = [false; 6];
-    for i in 0..6 {
-        if is_trusted(seen[i]) {
-            gets[i] = true;
+    // The record that is committed on the lowest drive, if any is. Which one is taken does not matter, as long as all drives come to agree.
+    fn lowest(&self) -> Option<Payload>
+        ensures { result ≡ lowest_in self.now.seen }
+    {
+        self.seen.iter().find_map(|l| l.committed())
+    }
+
+    // Which drives are trusted.
+    fn trusted(&self) -> [bool; 6]
+        ensures { result ≡ map trusts self.now.seen }
+    {
+        self.seen.map(|l| l.is_trusted())
+    }
+
+    // Where nothing is committed, every drive is told so: there is nothing yet that one could lack.
+    fn get_at_first(&self, committed: Option<Payload>) -> [bool; 6]
+        ensures { result ≡ gets_at_first committed self.now.seen }
+    {
+        match committed {
+            Some(_) => self.trusted(),
+            None => [true; 6],
         }
-    }
-    gets
-}
-
-// Where nothing is committed, every drive is told so: there is nothing yet that one could lack.
-fn gets_at_first(r: Record, seen: [Label; 6]) -> [bool; 6]
-    ensures { result ≡ gets_at_first r seen }
-{
-    match r {
-        Record::Empty => [true; 6],
-        Record::Committed(_) => trusted(seen),
-    }
-}
-
-fn payload_in(r: Record) -> Payload
-    ensures { result ≡ payload_in r }
-{
-    match r {
-        Record::Empty => Payload { time: 0 },
-        Record::Committed(p) => p,
     }
 }
 
@@ -118,40 +96,33 @@ impl Recorder {
     pub fn new() -> Recorder
         ensures { result ≡ fresh }
     {
-        let seen = [Label::Missing; 6];
-        let gets = [false; 6];
         Recorder {
-            drives: Drives { seen },
-            gets,
-            current: Record::Empty,
+            current: None,
             task: Task::Opens,
             phase: Phase::Begun,
         }
     }
 
     // What all labels come to: which record is written, and to which drives.
-    fn decide(&mut self)
-        ensures { self.new ≡ decided self.old.task self.old }
+    fn decide(&mut self, drives: Drives)
+        ensures { self.new ≡ decided self.old.task drives self.old }
     {
-        let seen = self.drives.seen;
-        self.phase = Phase::Writing { left: 6 };
-        match self.task {
+        let gets = match self.task {
             Task::Opens => {
-                self.current = lowest(seen);
-                let gets = gets_at_first(self.current, seen);
-                self.gets = gets;
+                self.current = drives.lowest();
+                drives.get_at_first(self.current)
             }
             Task::Sets(p) => {
-                self.current = Record::Committed(p);
-                let gets = trusted(seen);
-                self.gets = gets;
+                self.current = Some(p);
+                drives.trusted()
             }
-            Task::Gets => self.phase = Phase::Over,
-            Task::Mends => {
-                let gets = plan_stretch(seen).fills;
-                self.gets = gets;
+            Task::Mends => plan_stretch(drives.seen).fills,
+            Task::Gets => {
+                self.phase = Phase::Over;
+                return;
             }
-        }
+        };
+        self.phase = Phase::Writing { left: 6, gets };
     }
 
     // Reads the labels, all of them: whatever was seen before, a drive may have been replaced since.
@@ -159,8 +130,8 @@ impl Recorder {
         ensures { (lent : Lent) → goes self.new lent result ≡ read_all self.old lent }
     {
         let seen = [Label::Missing; 6];
-        self.drives = Drives { seen };
-        self.phase = Phase::Reading { drive: 5 };
+        let drives = Drives { seen };
+        self.phase = Phase::Reading { drive: 5, drives };
         Ask::Read {
             drive: 5,
             sector: 0,
@@ -168,15 +139,18 @@ impl Recorder {
     }
 
     // Drive i has shown a label: the next one is read, or it is decided what to write.
-    fn read_on(&mut self, i: u8, l: Label) -> Ask
-        ensures { (lent : Lent) → goes self.new lent result ≡ read_on i self.old lent l }
+    fn read_on(&mut self, i: u8, mut drives: Drives, l: Label) -> Ask
+        ensures { (lent : Lent) → goes self.new lent result ≡ read_on i drives self.old lent l }
     {
-        self.drives = note(self.drives, i, l);
+        drives.note(i, l);
         if i == 0 {
-            self.decide();
+            self.decide(drives);
             Ask::Again
         } else {
-            self.phase = Phase::Reading { drive: i - 1 };
+            self.phase = Phase::Reading {
+                drive: i - 1,
+                drives,
+            };
             Ask::Read {
                 drive: i - 1,
                 sector: 0,
@@ -185,16 +159,16 @@ impl Recorder {
     }
 
     // The record goes to the next drive that gets it; after the last, all drives are synced.
-    fn write_on(&mut self, left: u8, lent: &mut Lent) -> Ask
-        ensures { goes self.new lent.new result ≡ write_on left self.old lent.old }
+    fn write_on(&mut self, left: u8, gets: [bool; 6], lent: &mut Lent) -> Ask
+        ensures { goes self.new lent.new result ≡ write_on left gets self.old lent.old }
     {
         if left == 0 {
             self.phase = Phase::Syncing { left: 6 };
             return Ask::Again;
         }
         let i = left - 1;
-        self.phase = Phase::Writing { left: i };
-        if is_marked(&self.gets, i) {
+        self.phase = Phase::Writing { left: i, gets };
+        if is_marked(&gets, i) {
             lent.place(0, &write_label(self.current));
             Ask::Write {
                 drive: i,
@@ -266,8 +240,8 @@ impl Stepper for Recorder {
     fn step(&mut self, lent: &mut Lent, got: &[u8]) -> Ask {
         match self.phase {
             Phase::Begun => self.read_all(),
-            Phase::Reading { drive } => self.read_on(drive, read_label(got)),
-            Phase::Writing { left } => self.write_on(left, lent),
+            Phase::Reading { drive, drives } => self.read_on(drive, drives, read_label(got)),
+            Phase::Writing { left, gets } => self.write_on(left, gets, lent),
             Phase::Syncing { left } => self.sync_on(left),
             Phase::Over => Ask::Done,
         }
@@ -275,7 +249,7 @@ impl Stepper for Recorder {
 
     fn reply(&self) -> Reply {
         match self.task {
-            Task::Gets => Reply::Is(payload_in(self.current)),
+            Task::Gets => Reply::Is(self.current.unwrap_or_default()),
             _ => Reply::Done,
         }
     }
