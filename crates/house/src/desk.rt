@@ -23,19 +23,6 @@ pub struct Desk {
     up: bool,
 }
 
-// What a drive is called in `status`.
-fn word(d: Drive) -> &'static str {
-    match d {
-        Drive::Unseen | Drive::Gone => "gone",
-        Drive::Odd => "of another length",
-        Drive::Foreign => "foreign",
-        Drive::Stale => "stale (a drive comes back only blank)",
-        Drive::Blank => "blank",
-        Drive::Rebuilding => "rebuilding",
-        Drive::Trusted => "trusted",
-    }
-}
-
 impl Desk {
     pub fn new(longest: usize) -> Desk {
         Desk {
@@ -62,8 +49,7 @@ impl Desk {
             let now = self.drives.state(i);
             let odd = matches!(now, Drive::Odd | Drive::Foreign | Drive::Stale);
             if odd && now != before.state(i) {
-                let what = word(now);
-                let _ = eprintln!(rt; "drive{i} is {what}: it is left alone");
+                let _ = eprintln!(rt; "drive{i} is {now}: it is left alone");
             }
         }
         self.files.keep(&self.drives);
@@ -79,8 +65,8 @@ impl Desk {
             return Ok(false);
         }
         if !self.up {
-            self.house
-                .open(&mut self.lent, &mut self.files, self.drives.sectors);
+            let sectors = self.drives.sectors.unwrap_or(0);
+            self.house.open(&mut self.lent, &mut self.files, sectors);
             self.up = true;
             return self.stands(rt, out);
         }
@@ -149,12 +135,12 @@ impl Desk {
 
     pub fn status(&mut self, rt: &HostRuntime, out: &mut Vec<u8>) -> io::Result<()> {
         self.look(rt);
-        let sectors = self.drives.sectors;
+        let sectors = self.drives.sectors.unwrap_or(0);
         let words = format!(in rt.alloc(); "status: {sectors} sectors")?;
         out.extend_from_slice(words.as_bytes())?;
         for i in 0..6 {
-            let what = word(self.drives.state(i));
-            let words = format!(in rt.alloc(); ", drive{i} {what}")?;
+            let state = self.drives.state(i);
+            let words = format!(in rt.alloc(); ", drive{i} {state}")?;
             out.extend_from_slice(words.as_bytes())?;
         }
         out.push(b'\n')?;

@@ -2,7 +2,7 @@
 ghost use Rattle.std.specs.Prelude.{◌≡◌, false, is_some};
 ghost use Rattle.drives.specs.Drives.{gone};
 
-use bays::{Drives, Label, Seen};
+use bays::{Drives, Found, Label};
 use driver::Disks;
 use labels::read_label;
 use std::fs::{File, OpenOptions};
@@ -70,12 +70,7 @@ fn try_again(file: &mut File, what: Failure) -> io::Result<()> {
 fn label_of(file: &mut File) -> io::Result<Label> {
     let mut sector = [0u8; 512];
     read_sector(file, 0, &mut sector)?;
-    Ok(match read_label(&sector) {
-        labels::Label::Blank => Label::Blank,
-        labels::Label::Rebuilding => Label::Mark,
-        labels::Label::Empty | labels::Label::Committed(_) => Label::Record,
-        labels::Label::Missing | labels::Label::Foreign => Label::Foreign,
-    })
+    Ok(read_label(&sector).into())
 }
 
 fn open_drive<R: Files>(rt: &R, i: usize) -> io::Result<R::File> {
@@ -88,16 +83,14 @@ fn open_drive<R: Files>(rt: &R, i: usize) -> io::Result<R::File> {
     how.open(rt, NAMES[i])
 }
 
-fn see(file: &mut File) -> io::Result<Seen> {
+fn find(file: &mut File) -> io::Result<Found> {
     let bytes = file.metadata()?.len();
-    if bytes < SECTOR {
-        return Ok(Seen::File {
-            bytes,
-            label: Label::Foreign,
-        });
-    }
-    let label = label_of(file)?;
-    Ok(Seen::File { bytes, label })
+    let label = if bytes < SECTOR {
+        Label::Foreign
+    } else {
+        label_of(file)?
+    };
+    Ok(Found { bytes, label })
 }
 
 impl DriveFiles {
@@ -118,14 +111,14 @@ impl DriveFiles {
     }
 
     // Opens the files anew, and says what is seen of each.
-    pub fn open_all(&mut self, rt: &HostRuntime) -> [Seen; 6] {
-        let mut seen = [Seen::Nothing; 6];
+    pub fn open_all(&mut self, rt: &HostRuntime) -> [Option<Found>; 6] {
+        let mut seen = [None; 6];
         self.failed = None;
         for i in 0..6 {
             self.at[i] = None;
             if let Ok(mut file) = open_drive(rt, i) {
-                if let Ok(found) = see(&mut file) {
-                    seen[i] = found;
+                if let Ok(found) = find(&mut file) {
+                    seen[i] = Some(found);
                     self.at[i] = Some(file);
                 }
             }
