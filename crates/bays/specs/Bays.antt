@@ -1,39 +1,49 @@
 -- Which files count as drives, and how each drive stands.
 -- Assumes nothing.
-use Rattle.std.specs.Prelude.{◌≡◌, ℕ, ◌+◌, ◌/◌, ◌%◌, ◌<◌, Bool, true, false, cond, ◌&&◌, List, [], ◌∷◌, ◌==◌, nat_le, nat_lt, slice_index_or}
+use Rattle.std.specs.Prelude.{◌≡◌, ℕ, ◌/◌, ◌%◌, ◌<◌, Bool, true, false, cond, ◌&&◌, List, [], ◌∷◌, ◌==◌, nat_le, nat_lt, slice_index_or, Option, Some, None, unwrap_or, count_by, fold}
+use Rattle.std.specs.Option.{option_map, option_or}
 use Rattle.bays.specs.declared.Label.{Label}
 use Rattle.bays.specs.declared.Label.TheVariants as label
-use Rattle.bays.specs.declared.Seen.{Seen}
-use Rattle.bays.specs.declared.Seen.TheVariants.{Nothing, File}
+use Rattle.labels.specs.declared.Label.{Label as Shown}
+use Rattle.labels.specs.declared.Label.TheVariants as shown
+use Rattle.bays.specs.declared.Found.{Found}
 use Rattle.bays.specs.declared.Drive.{Drive}
 use Rattle.bays.specs.declared.Drives.{Drives}
 use Rattle.bays.specs.declared.Drive.TheVariants.{Unseen, Gone, Odd, Foreign, Stale, Blank, Rebuilding, Trusted}
+
+-- what the sector 0 of a file shows, as far as it matters which drives count; what isn't ours is left alone
+abbrev pub label_of : Shown → Label
+label_of shown.Missing = label.Foreign
+label_of shown.Blank = label.Blank
+label_of shown.Rebuilding = label.Mark
+label_of shown.Empty = label.Record
+label_of (shown.Committed payload) = label.Record
+label_of shown.Foreign = label.Foreign
 
 -- a length in bytes that a drive may have: whole sectors, 8,192 to 2^40 of them
 abbrev pub fits : ℕ → Bool
 fits n = n % 512 == 0 && (nat_le 8192 (n / 512) && nat_le (n / 512) 1099511627776)
 
-abbrev pub sectors_of : Seen → ℕ → Bool
-sectors_of Nothing n = false
-sectors_of (File own l) n = own == n
+abbrev pub has_length : ℕ → Option Found → Bool
+has_length n None = false
+has_length n (Some file) = file.bytes == n
 
 -- how many files have that length
-unfoldable pub votes : ℕ → List Seen → ℕ
-votes n [] = 0
-votes n (x ∷ xs) = cond (sectors_of x n) 1 0 + votes n xs
+unfoldable pub votes : ℕ → List (Option Found) → ℕ
+votes n seen = count_by (has_length n) seen
 
--- the length that most files have; of two that as many have, the one of the lowest-numbered drive
-abbrev pub better : List Seen → Seen → ℕ → ℕ
-better all Nothing best = best
-better all (File own l) best = cond (fits own && nat_lt (votes best all) (votes own all)) own best
+-- A length that a drive may have, and more files than have the best so far; where there is none so far, more than are empty.
+abbrev pub better : List (Option Found) → Option ℕ → Option Found → Option ℕ
+better all best None = best
+better all best (Some file) = cond (fits file.bytes && nat_lt (votes (unwrap_or best 0) all) (votes file.bytes all)) (Some file.bytes) best
 
-unfoldable pub elected : List Seen → ℕ → List Seen → ℕ
-elected all best [] = best
-elected all best (x ∷ xs) = elected all (better all x best) xs
+-- the length in sectors that most files have; of two that as many have, the one of the lowest-numbered drive
+abbrev pub elected : List (Option Found) → Option ℕ
+elected seen = option_map (λ n. n / 512) (fold (better seen) None seen)
 
 -- the number of sectors, once it is known
-abbrev pub settled : ℕ → List Seen → ℕ
-settled known seen = cond (known == 0) (elected seen 0 seen / 512) known
+abbrev pub settled : Option ℕ → List (Option Found) → Option ℕ
+settled known seen = option_or known (elected seen)
 
 -- it was away while the house worked, so what it holds may be old
 abbrev pub is_away : Drive → Bool
@@ -62,17 +72,14 @@ labelled label.Mark away = cond away Stale Rebuilding
 labelled label.Record away = cond away Stale Trusted
 labelled label.Foreign away = Foreign
 
-abbrev pub admitted : Drive → Seen → ℕ → Drive
-admitted was Nothing sectors = Gone
-admitted was (File n l) sectors = cond (n % 512 == 0 && n / 512 == sectors) (labelled l (is_away was)) Odd
+-- while no length is known, only an empty file is of the right one
+abbrev pub admitted : Drive → Option Found → Option ℕ → Drive
+admitted was None sectors = Gone
+admitted was (Some file) sectors = cond (file.bytes % 512 == 0 && file.bytes / 512 == unwrap_or sectors 0) (labelled file.label (is_away was)) Odd
 
 -- each of the six drives
-abbrev pub Admits : List Drive → List Drive → List Seen → ℕ → Type 0
-Admits before after seen sectors = (k : ℕ) → k < 6 → slice_index_or after k Unseen ≡ admitted (slice_index_or before k Unseen) (slice_index_or seen k Nothing) sectors
-
-unfoldable pub count_of : (Drive → Bool) → List Drive → ℕ
-count_of f [] = 0
-count_of f (x ∷ xs) = cond (f x) 1 0 + count_of f xs
+abbrev pub Admits : List Drive → List Drive → List (Option Found) → Option ℕ → Type 0
+Admits before after seen sectors = (k : ℕ) → k < 6 → slice_index_or after k Unseen ≡ admitted (slice_index_or before k Unseen) (slice_index_or seen k None) sectors
 
 abbrev pub unseen : Drives
-unseen = record { at = Unseen ∷ Unseen ∷ Unseen ∷ Unseen ∷ Unseen ∷ Unseen ∷ []; sectors = 0 }
+unseen = record { at = Unseen ∷ Unseen ∷ Unseen ∷ Unseen ∷ Unseen ∷ Unseen ∷ []; sectors = None }

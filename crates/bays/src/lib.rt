@@ -1,8 +1,18 @@
 // The six bays of a house: which files count as drives, and how each drive stands.
 #![tactic(auto)]
 
-ghost use Rattle.std.specs.Prelude.{◌≡◌, ◌/◌, Bool, if◌then◌else◌, nat_lt, slice_index_or};
-ghost use Rattle.bays.specs.Bays.{fits, votes, better, elected, admitted, Admits, is_there, count_of, sectors_of, settled, unseen};
+ghost use Rattle.std.specs.Prelude.{◌≡◌, if◌then◌else◌, nat_lt, slice_index_or, count_by};
+ghost use Rattle.bays.specs.Bays.{label_of, fits, votes, better, elected, admitted, Admits, is_there, settled, unseen};
+
+use std::fmt;
+
+// The bytes of a sector.
+const SECTOR: u64 = 512;
+
+// The fewest and the most sectors that a drive may have.
+const FEWEST: u64 = 8192;
+
+const MOST: u64 = 1 << 40;
 
 // What the label of a file shows.
 #[derive(Clone, Copy, PartialEq, Eq)]
@@ -13,11 +23,24 @@ pub enum Label {
     Foreign,
 }
 
-// What is seen of a bay: no file, or one of so many bytes with a label.
+impl From<labels::Label> for Label {
+    ghost from_gives = { λ shown label. label ≡ label_of shown };
+
+    fn from(shown: labels::Label) -> Label {
+        match shown {
+            labels::Label::Blank => Label::Blank,
+            labels::Label::Rebuilding => Label::Mark,
+            labels::Label::Empty | labels::Label::Committed(_) => Label::Record,
+            labels::Label::Missing | labels::Label::Foreign => Label::Foreign,
+        }
+    }
+}
+
+// A file that is found in a bay: of so many bytes, with a label.
 #[derive(Clone, Copy, PartialEq, Eq)]
-pub enum Seen {
-    Nothing,
-    File { bytes: u64, label: Label },
+pub struct Found {
+    pub bytes: u64,
+    pub label: Label,
 }
 
 // How a drive stands. A drive that was away and came back with anything but a blank label is stale:
@@ -36,43 +59,31 @@ pub enum Drive {
     Trusted,
 }
 
-// A length that a drive may have: whole sectors, 8,192 to 2^40 of them.
+// A length that a drive may have.
 fn is_length(bytes: u64) -> bool
     ensures { result ≡ fits bytes }
 {
-    bytes % 512 == 0 && bytes / 512 >= 8192 && bytes / 512 <= 1099511627776
-}
-
-fn has_length(seen: Seen, bytes: u64) -> bool
-    ensures { result ≡ sectors_of seen bytes }
-{
-    match seen {
-        Seen::Nothing => false,
-        Seen::File { bytes: own, .. } => own == bytes,
-    }
+    bytes % SECTOR == 0 && (FEWEST..=MOST).contains(&(bytes / SECTOR))
 }
 
 // How many files have that length.
-fn count_votes(seen: &[Seen; 6], bytes: u64) -> usize
+#[tactic(auto, unfolding(crate::specs::Bays::votes))]
+fn count_votes(seen: &[Option<Found>; 6], bytes: u64) -> usize
     ensures { result ≡ votes bytes seen.now }
 {
-    let mut n = 0;
-    for s in seen {
-        if has_length(*s, bytes) {
-            n += 1;
-        }
-    }
-    n
+    seen.iter()
+        .filter(|s| s.is_some_and(|file| file.bytes == bytes))
+        .count()
 }
 
-// How a drive stands now, after how it stood before.
-pub fn admit(was: Drive, seen: Seen, sectors: u64) -> Drive
+// How a drive stands now, after how it stood before. While no length is known, only an empty file is of the right one.
+pub fn admit(was: Drive, seen: Option<Found>, sectors: Option<u64>) -> Drive
     ensures { result ≡ admitted was seen sectors }
 {
-    let Seen::File { bytes, label } = seen else {
+    let Some(Found { bytes, label }) = seen else {
         return Drive::Gone;
     };
-    if bytes % 512 != 0 || bytes / 512 != sectors {
+    if bytes % SECTOR != 0 || bytes / SECTOR != sectors.unwrap_or(0) {
         return Drive::Odd;
     }
     let away = matches!(
@@ -82,12 +93,9 @@ pub fn admit(was: Drive, seen: Seen, sectors: u64) -> Drive
     match label {
         Label::Foreign => Drive::Foreign,
         Label::Blank => Drive::Blank,
-        Label::Mark => if away {
-            Drive::Stale
-        } else {
-            Drive::Rebuilding
-        },
-        Label::Record => if away { Drive::Stale } else { Drive::Trusted },
+        Label::Mark | Label::Record if away => Drive::Stale,
+        Label::Mark => Drive::Rebuilding,
+        Label::Record => Drive::Trusted,
     }
 }
 
@@ -100,50 +108,47 @@ impl Drive {
     }
 }
 
-// The better of a file's length and the best so far: one that more files have.
-fn better_length(all: &[Seen; 6], seen: Seen, best: u64) -> u64
-    ensures { result ≡ better all.now seen best }
+// What a drive is called in `status`.
+impl fmt::Display for Drive {
+    fn fmt<W: fmt::Write>(&self, f: &mut fmt::Formatter<W>) -> fmt::Result {
+        f.write_str(match self {
+            Drive::Unseen | Drive::Gone => "gone",
+            Drive::Odd => "of another length",
+            Drive::Foreign => "foreign",
+            Drive::Stale => "stale (a drive comes back only blank)",
+            Drive::Blank => "blank",
+            Drive::Rebuilding => "rebuilding",
+            Drive::Trusted => "trusted",
+        })
+    }
+}
+
+// The better of a file's length and the best so far: one that more files have. The first must be that of more files than are empty.
+fn better_length(all: &[Option<Found>; 6], seen: Option<Found>, best: Option<u64>) -> Option<u64>
+    ensures { result ≡ better all.now best seen }
 {
     match seen {
-        Seen::Nothing => best,
-        Seen::File { bytes, .. } => {
-            if is_length(bytes) && count_votes(all, best) < count_votes(all, bytes) {
-                bytes
-            } else {
-                best
-            }
-        }
+        Some(Found { bytes, .. })
+            if is_length(bytes) && count_votes(all, best.unwrap_or(0)) < count_votes(all, bytes) =>
+            { Some(bytes) }
+        _ => best,
     }
 }
 
-// The length that most files have, in sectors; 0 where none is a drive's.
-fn elect(seen: &[Seen; 6]) -> u64
-    ensures { result ≡ elected seen.now 0 seen.now / 512 }
+// The length in sectors that most files have, if it is a drive's.
+fn elect(seen: &[Option<Found>; 6]) -> Option<u64>
+    ensures { result ≡ elected seen.now }
 {
-    let mut best = 0;
-    for s in seen {
-        best = better_length(seen, *s, best);
-    }
-    best / 512
+    seen.iter()
+        .fold(None, |best, file| better_length(seen, *file, best))
+        .map(|bytes| bytes / SECTOR)
 }
 
-fn count(drives: &[Drive; 6]) -> usize
-    ensures { result ≡ count_of is_there drives.now }
-{
-    let mut n = 0;
-    for d in drives {
-        if d.is_there() {
-            n += 1;
-        }
-    }
-    n
-}
-
-fn admit_all(drives: &mut [Drive; 6], seen: &[Seen; 6], sectors: u64)
+fn admit_all(drives: &mut [Drive; 6], seen: &[Option<Found>; 6], sectors: Option<u64>)
     ensures { Admits drives.old drives.new seen.now sectors }
 {
-    for i in 0..6 {
-        drives[i] = admit(drives[i], seen[i], sectors);
+    for (i, file) in seen.iter().enumerate() {
+        drives[i] = admit(drives[i], *file, sectors);
     }
 }
 
@@ -151,8 +156,8 @@ fn admit_all(drives: &mut [Drive; 6], seen: &[Seen; 6], sectors: u64)
 #[derive(Clone, Copy)]
 pub struct Drives {
     at: [Drive; 6],
-    // of each drive; 0 while it isn't known
-    pub sectors: u64,
+    // of each drive, once it is known
+    pub sectors: Option<u64>,
 }
 
 impl Drives {
@@ -161,7 +166,7 @@ impl Drives {
     {
         Drives {
             at: [Drive::Unseen; 6],
-            sectors: 0,
+            sectors: None,
         }
     }
 
@@ -169,22 +174,22 @@ impl Drives {
     pub fn state(&self, i: usize) -> Drive
         ensures { result ≡ (if nat_lt i 6 then slice_index_or self.now.at i Drive.Unseen else Drive.Unseen) }
     {
-        if i < 6 { self.at[i] } else { Drive::Unseen }
+        self.at.get(i).copied().unwrap_or(Drive::Unseen)
     }
 
     // How many may be asked for sectors.
     pub fn count_there(&self) -> usize
-        ensures { result ≡ count_of is_there self.now.at }
+        ensures { result ≡ count_by is_there self.now.at }
     {
-        count(&self.at)
+        self.at.iter().filter(|d| d.is_there()).count()
     }
 
     // Looks at the bays. The length is settled once, and stays while the house works.
-    pub fn look(&mut self, seen: &[Seen; 6])
+    pub fn look(&mut self, seen: &[Option<Found>; 6])
         ensures sectors { self.new.sectors ≡ settled self.old.sectors seen.now }
         ensures drives { Admits self.old.at self.new.at seen.now (settled self.old.sectors seen.now) }
     {
-        if self.sectors == 0 {
+        if self.sectors.is_none() {
             self.sectors = elect(seen);
         }
         admit_all(&mut self.at, seen, self.sectors);

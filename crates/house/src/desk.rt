@@ -1,16 +1,17 @@
 // What the house does for each command: it looks at its bays, comes up if it isn't, and answers.
-use crate::files::DriveFiles;
+use crate::files::{DriveFiles, FEWEST};
 use asks::write_time;
 use bays::{Drive, Drives};
 use console::push_hex;
 use front::House;
 use recorder::Recorder;
-use std::io;
+use std::alloc::AllocError;
+use std::fs::File;
+use std::io::Write;
+use std::rt::Files;
+use std::{fmt, io};
 use steps::machines::Stepper;
 use whole::{answer_line, closed_house};
-
-// The fewest drives that anything is asked of: with fewer, a house that is only unplugged might begin anew.
-const FEWEST: usize = 4;
 
 #[derive(Drop)]
 pub struct Desk {
@@ -21,16 +22,35 @@ pub struct Desk {
     up: bool,
 }
 
-// What a drive is called in `status`.
-fn word(d: Drive) -> &'static str {
-    match d {
-        Drive::Unseen | Drive::Gone => "gone",
-        Drive::Odd => "of another length",
-        Drive::Foreign => "foreign",
-        Drive::Stale => "stale (a drive comes back only blank)",
-        Drive::Blank => "blank",
-        Drive::Rebuilding => "rebuilding",
-        Drive::Trusted => "trusted",
+// Why the house does not answer.
+#[derive(Debug, Drop)]
+pub enum Trouble {
+    // only so many drives are there
+    Closed(usize),
+    // a drive failed meanwhile
+    Cut,
+    Io(io::Error),
+}
+
+impl fmt::Display for Trouble {
+    fn fmt<W: fmt::Write>(&self, f: &mut fmt::Formatter<W>) -> fmt::Result {
+        match self {
+            Trouble::Closed(there) => write!(f, "closed {there}"),
+            Trouble::Cut => f.write_str("cut"),
+            Trouble::Io(error) => write!(f, "{error}"),
+        }
+    }
+}
+
+impl From<io::Error> for Trouble {
+    fn from(error: io::Error) -> Trouble {
+        Trouble::Io(error)
+    }
+}
+
+impl From<AllocError> for Trouble {
+    fn from(error: AllocError) -> Trouble {
+        Trouble::Io(error.into())
     }
 }
 
@@ -44,14 +64,8 @@ impl Desk {
         }
     }
 
-    pub fn say(&self, words: &str, out: &mut Vec<u8>) -> io::Result<()> {
-        out.extend_from_slice(words.as_bytes())?;
-        out.push(b'\n')?;
-        Ok(())
-    }
-
     // Opens the files anew: a drive may have been removed or replaced since the last command.
-    fn look(&mut self, rt: &HostRuntime) {
+    fn look(&mut self, rt: &(impl Files<File = File> + Eprint)) {
         let seen = self.files.open_all(rt);
         let before = self.drives;
         self.drives.look(&seen);
@@ -59,34 +73,32 @@ impl Desk {
             let now = self.drives.state(i);
             let odd = matches!(now, Drive::Odd | Drive::Foreign | Drive::Stale);
             if odd && now != before.state(i) {
-                let what = word(now);
-                let _ = eprintln!(rt; "drive{i} is {what}: it is left alone");
+                let _ = eprintln!(rt; "drive{i} is {now}: it is left alone");
             }
         }
         self.files.keep(&self.drives);
     }
 
-    // Looks, and comes up if need be. Says whether the house is ready to be asked; if not, what is said instead is in `out`.
-    fn ready(&mut self, rt: &HostRuntime, out: &mut Vec<u8>) -> io::Result<bool> {
+    // Looks, and comes up if need be.
+    fn come_up(&mut self, rt: &(impl Files<File = File> + Eprint)) -> Result<(), Trouble> {
         self.look(rt);
         let there = self.drives.count_there();
         if there < FEWEST {
-            let words = format!(in rt.alloc(); "closed {there}")?;
-            self.say(words.as_str(), out)?;
-            return Ok(false);
+            return Err(Trouble::Closed(there));
         }
         if !self.up {
-            self.house.open(&mut self.files, self.drives.sectors);
+            let sectors = self.drives.sectors.unwrap_or(0);
+            self.house.open(&mut self.files, sectors);
             self.up = true;
-            return self.stands(rt, out);
+            self.stay_up(rt)?;
         }
-        Ok(true)
+        Ok(())
     }
 
-    // Says whether the power is still on. If a drive failed, that was a power cut, and the drive is lost.
-    fn stands(&mut self, rt: &HostRuntime, out: &mut Vec<u8>) -> io::Result<bool> {
+    // Whether the power is still on. If a drive failed, that was a power cut, and the drive is lost.
+    fn stay_up(&mut self, rt: &(impl Files + Eprint)) -> Result<(), Trouble> {
         if !self.files.is_off() {
-            return Ok(true);
+            return Ok(());
         }
         self.up = false;
         // nobody may be reading the messages, and the house goes on all the same
@@ -98,55 +110,68 @@ impl Desk {
                 "a drive failed, and none is taken for lost: too many fail, or its file can't be put away"
             ),
         };
-        out.clear();
-        self.say("cut", out)?;
-        Ok(false)
+        Err(Trouble::Cut)
     }
 
-    pub fn call(&mut self, rt: &HostRuntime, line: &[u8], out: &mut Vec<u8>) -> io::Result<()> {
-        if !self.ready(rt, out)? {
-            return Ok(());
-        }
+    pub fn call(
+        &mut self,
+        rt: &(impl Files<File = File> + Eprint),
+        line: &[u8],
+        out: &mut Vec<u8>,
+    ) -> Result<(), Trouble> {
+        self.come_up(rt)?;
         let mut answer = [0u8; 64];
-        let n = answer_line(&mut self.house, &mut self.files, line, &mut answer).unwrap_or(0);
-        if !self.stands(rt, out)? {
-            return Ok(());
-        }
-        out.extend_from_slice(b"out ")?;
+        let n = answer_line(
+            &mut self.house,
+            &mut self.files,
+            line,
+            &mut answer,
+        )
+        .unwrap_or(0);
+        self.stay_up(rt)?;
+        write!(out, "out ")?;
         push_hex(out, &answer[0..n.min(64)])?;
-        out.push(b'\n')?;
+        writeln!(out)?;
         Ok(())
     }
 
     // Tells the time, as a line with tag 0 would.
-    pub fn tell(&mut self, rt: &HostRuntime, ms: u64, out: &mut Vec<u8>) -> io::Result<()> {
+    pub fn tell(
+        &mut self,
+        rt: &(impl Files<File = File> + Eprint),
+        ms: u64,
+        out: &mut Vec<u8>,
+    ) -> Result<(), Trouble> {
         let mut line = [0u8; 32];
         let n = write_time(0, ms, &mut line).unwrap_or(0);
         self.call(rt, &line[0..n.min(32)], out)
     }
 
-    pub fn mend(&mut self, rt: &HostRuntime, out: &mut Vec<u8>) -> io::Result<()> {
-        if !self.ready(rt, out)? {
-            return Ok(());
-        }
+    pub fn mend(
+        &mut self,
+        rt: &(impl Files<File = File> + Eprint),
+        out: &mut Vec<u8>,
+    ) -> Result<(), Trouble> {
+        self.come_up(rt)?;
         let whole = self.house.mend(&mut self.files);
-        if self.stands(rt, out)? {
-            self.say(if whole { "whole" } else { "working" }, out)?;
-        }
+        self.stay_up(rt)?;
+        let how = if whole { "whole" } else { "working" };
+        writeln!(out, "{how}")?;
         Ok(())
     }
 
-    pub fn status(&mut self, rt: &HostRuntime, out: &mut Vec<u8>) -> io::Result<()> {
+    pub fn status(
+        &mut self,
+        rt: &(impl Files<File = File> + Eprint),
+        out: &mut Vec<u8>,
+    ) -> io::Result<()> {
         self.look(rt);
-        let sectors = self.drives.sectors;
-        let words = format!(in rt.alloc(); "status: {sectors} sectors")?;
-        out.extend_from_slice(words.as_bytes())?;
+        let sectors = self.drives.sectors.unwrap_or(0);
+        write!(out, "status: {sectors} sectors")?;
         for i in 0..6 {
-            let what = word(self.drives.state(i));
-            let words = format!(in rt.alloc(); ", drive{i} {what}")?;
-            out.extend_from_slice(words.as_bytes())?;
+            let state = self.drives.state(i);
+            write!(out, ", drive{i} {state}")?;
         }
-        out.push(b'\n')?;
-        Ok(())
+        writeln!(out)
     }
 }

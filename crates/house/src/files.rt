@@ -2,7 +2,7 @@
 ghost use Rattle.std.specs.Prelude.{◌≡◌, false, is_some};
 ghost use Rattle.drives.specs.Drives.{gone};
 
-use bays::{Drives, Label, Seen};
+use bays::{Drives, Found, Label};
 use driver::Disks;
 use labels::read_label;
 use std::fs::{File, OpenOptions};
@@ -12,15 +12,17 @@ use std::{fs, io};
 
 const SECTOR: u64 = 512;
 
-const NAMES: [&str; 6] = ["drive0", "drive1", "drive2", "drive3", "drive4", "drive5"];
+// The fewest drives that anything is asked of: with fewer, a house that is only unplugged might begin anew.
+pub const FEWEST: usize = 4;
 
-const LOST: [&str; 6] = [
-    "drive0.lost",
-    "drive1.lost",
-    "drive2.lost",
-    "drive3.lost",
-    "drive4.lost",
-    "drive5.lost",
+// The name of each drive's file, and its name once the drive is lost.
+const NAMES: [(&str, &str); 6] = [
+    ("drive0", "drive0.lost"),
+    ("drive1", "drive1.lost"),
+    ("drive2", "drive2.lost"),
+    ("drive3", "drive3.lost"),
+    ("drive4", "drive4.lost"),
+    ("drive5", "drive5.lost"),
 ];
 
 // What a drive failed at.
@@ -38,66 +40,58 @@ pub struct DriveFiles {
     failed: Option<(u8, Failure)>,
 }
 
-fn read_sector(file: &mut File, sector: u64, into: &mut [u8; 512]) -> io::Result<()> {
+fn seek_sector(file: &mut File, sector: u64) -> io::Result<()> {
     let Some(place) = sector.checked_mul(SECTOR) else {
         return Err(io::Error::other("no such sector"));
     };
     file.seek(SeekFrom::Start(place))?;
-    file.read_exact(into)
+    Ok(())
 }
 
-fn write_sector(file: &mut File, sector: u64, from: &[u8; 512]) -> io::Result<()> {
-    let Some(place) = sector.checked_mul(SECTOR) else {
-        return Err(io::Error::other("no such sector"));
-    };
-    file.seek(SeekFrom::Start(place))?;
-    file.write_all(from)
+fn read_sector(file: &mut File, sector: u64) -> io::Result<[u8; 512]> {
+    let mut bytes = [0; 512];
+    seek_sector(file, sector)?;
+    file.read_exact(&mut bytes)?;
+    Ok(bytes)
+}
+
+fn write_sector(file: &mut File, sector: u64, bytes: &[u8; 512]) -> io::Result<()> {
+    seek_sector(file, sector)?;
+    file.write_all(bytes)
 }
 
 // The same again, changing nothing: what is written is what was read there.
 fn try_again(file: &mut File, what: Failure) -> io::Result<()> {
-    let mut sector = [0u8; 512];
     match what {
-        Failure::Read(at) => read_sector(file, at, &mut sector),
+        Failure::Read(at) => {
+            read_sector(file, at)?;
+            Ok(())
+        }
         Failure::Write(at) => {
-            read_sector(file, at, &mut sector)?;
-            write_sector(file, at, &sector)
+            let bytes = read_sector(file, at)?;
+            write_sector(file, at, &bytes)
         }
         Failure::Sync => file.sync_all(),
     }
 }
 
-fn label_of(file: &mut File) -> io::Result<Label> {
-    let mut sector = [0u8; 512];
-    read_sector(file, 0, &mut sector)?;
-    Ok(match read_label(&sector) {
-        labels::Label::Blank => Label::Blank,
-        labels::Label::Rebuilding => Label::Mark,
-        labels::Label::Empty | labels::Label::Committed(_) => Label::Record,
-        labels::Label::Missing | labels::Label::Foreign => Label::Foreign,
-    })
+fn find(file: &mut File) -> io::Result<Found> {
+    let bytes = file.metadata()?.len();
+    let label = if bytes < SECTOR {
+        Label::Foreign
+    } else {
+        read_label(&read_sector(file, 0)?).into()
+    };
+    Ok(Found { bytes, label })
 }
 
-fn open_drive<R: Files>(rt: &R, i: usize) -> io::Result<R::File> {
-    if i >= 6 {
-        return Err(io::Error::other("no such drive"));
-    }
+fn open_drive(rt: &impl Files<File = File>, name: &str) -> io::Result<(File, Found)> {
     let mut how = OpenOptions::new();
     how.read(true);
     how.write(true);
-    how.open(rt, NAMES[i])
-}
-
-fn see(file: &mut File) -> io::Result<Seen> {
-    let bytes = file.metadata()?.len();
-    if bytes < SECTOR {
-        return Ok(Seen::File {
-            bytes,
-            label: Label::Foreign,
-        });
-    }
-    let label = label_of(file)?;
-    Ok(Seen::File { bytes, label })
+    let mut file = how.open(rt, name)?;
+    let found = find(&mut file)?;
+    Ok((file, found))
 }
 
 impl DriveFiles {
@@ -117,17 +111,15 @@ impl DriveFiles {
         self.failed.is_some()
     }
 
-    // Opens the files anew, and says what is seen of each.
-    pub fn open_all(&mut self, rt: &HostRuntime) -> [Seen; 6] {
-        let mut seen = [Seen::Nothing; 6];
+    // Opens the files anew, and says what is found of each.
+    pub fn open_all(&mut self, rt: &impl Files<File = File>) -> [Option<Found>; 6] {
         self.failed = None;
-        for i in 0..6 {
+        let mut seen = [None; 6];
+        for (i, (name, _)) in NAMES.iter().enumerate() {
             self.at[i] = None;
-            if let Ok(mut file) = open_drive(rt, i) {
-                if let Ok(found) = see(&mut file) {
-                    seen[i] = found;
-                    self.at[i] = Some(file);
-                }
+            if let Ok((file, found)) = open_drive(rt, name) {
+                self.at[i] = Some(file);
+                seen[i] = Some(found);
             }
         }
         seen
@@ -135,50 +127,53 @@ impl DriveFiles {
 
     // Closes those that are no drives of the house.
     pub fn keep(&mut self, drives: &Drives) {
-        for i in 0..6 {
+        for (i, file) in self.at.iter_mut().enumerate() {
             if !drives.state(i).is_there() {
-                self.at[i] = None;
+                *file = None;
             }
         }
     }
 
-    fn note(&mut self, drive: u8, what: Failure, done: io::Result<()>) -> bool {
-        match done {
-            Ok(()) => true,
+    // Does something with the file of a drive that is there, while the power is on. If it fails, that turns the power off.
+    fn ask<T: Drop, F: FnOnce(&mut File) -> io::Result<T>>(
+        &mut self,
+        drive: u8,
+        what: Failure,
+        f: F,
+    ) -> Option<T>
+        requires { F.IsAlwaysCallable f }
+    {
+        if self.failed.is_some() {
+            return None;
+        }
+        match f(self.at.get_mut(usize::from(drive))?.as_mut()?) {
+            Ok(got) => Some(got),
             Err(_) => {
                 self.failed = Some((drive, what));
-                false
+                None
             }
         }
     }
 
     // How many of the files fail at what one failed at.
     fn count_failing(&mut self, what: Failure) -> usize {
-        let mut n = 0usize;
-        for i in 0..6 {
-            if let Some(file) = &mut self.at[i] {
-                if try_again(file, what).is_err() {
-                    n = n.saturating_add(1);
-                }
-            }
-        }
-        n
+        self.at
+            .iter_mut()
+            .flatten()
+            .filter_map(|file| try_again(file, what).err())
+            .count()
     }
 
     // The drive that failed is lost: its file is put out of the way, so that it can't come back with what is old.
     // Where more than two would be lost, with those that are gone, none is: it is the disk under them that is full or broken.
-    pub fn put_away(&mut self, rt: &HostRuntime, there: usize) -> Option<u8> {
-        let Some((drive, what)) = self.failed else {
-            return None;
-        };
-        let i = drive as usize;
-        if i >= 6 || self.count_failing(what).max(1) > there.saturating_sub(4) {
+    pub fn put_away(&mut self, rt: &impl Files, there: usize) -> Option<u8> {
+        let (drive, what) = self.failed?;
+        let (name, lost) = NAMES.get(usize::from(drive))?;
+        if self.count_failing(what).max(1) > there.saturating_sub(FEWEST) {
             return None;
         }
-        match fs::rename(rt, NAMES[i], LOST[i]) {
-            Ok(()) => Some(drive),
-            Err(_) => None,
-        }
+        fs::rename(rt, *name, *lost).ok()?;
+        Some(drive)
     }
 }
 
@@ -188,40 +183,20 @@ impl Disks for DriveFiles {
     ghost known = { λ _. ⊥ };
 
     fn read(&mut self, drive: u8, sector: u64) -> Option<[u8; 512]> {
-        if self.failed.is_some() || drive >= 6 {
-            return None;
-        }
-        let mut bytes = [0u8; 512];
-        let done = match &mut self.at[drive as usize] {
-            None => {
-                return None;
-            }
-            Some(file) => read_sector(file, sector, &mut bytes),
-        };
-        if self.note(drive, Failure::Read(sector), done) {
-            Some(bytes)
-        } else {
-            None
-        }
+        self.ask(
+            drive,
+            Failure::Read(sector),
+            |file| read_sector(file, sector),
+        )
     }
 
     fn write(&mut self, drive: u8, sector: u64, bytes: &[u8; 512]) {
-        if self.failed.is_some() || drive >= 6 {
-            return;
-        }
-        if let Some(file) = &mut self.at[drive as usize] {
-            let done = write_sector(file, sector, bytes);
-            self.note(drive, Failure::Write(sector), done);
-        }
+        self.ask(drive, Failure::Write(sector), |file| {
+            write_sector(file, sector, bytes)
+        });
     }
 
     fn sync(&mut self, drive: u8) {
-        if self.failed.is_some() || drive >= 6 {
-            return;
-        }
-        if let Some(file) = &mut self.at[drive as usize] {
-            let done = file.sync_all();
-            self.note(drive, Failure::Sync, done);
-        }
+        self.ask(drive, Failure::Sync, |file| file.sync_all());
     }
 }

@@ -5,36 +5,39 @@ mod desk;
 mod files;
 
 use console::{Input, Text, TextLine, understand};
-use desk::Desk;
+use desk::{Desk, Trouble};
+use std::fs::File;
 use std::io;
 use std::io::{BufReader, Write};
+use std::rt::Files;
 
 // The longest line of bytes: a put of 5,242,880 bytes under the longest names.
 const LONGEST: usize = 5_243_414;
 
 const HELP: &str = "help: in HEX (a line of bytes) | time MS | mend (one stretch) | status | help";
 
-// Answers one line of text, into `out`.
-fn answer(
-    rt: &HostRuntime,
+// Does what one line of text says.
+fn obey(
+    rt: &(impl Files<File = File> + Eprint),
     desk: &mut Desk,
     read: Text,
     text: &TextLine,
     line: &mut [u8],
     out: &mut Vec<u8>,
-) -> io::Result<()> {
+) -> Result<(), Trouble> {
     let input = match read {
         Text::Line => understand(text.text(), line),
         _ => Input::Line(0),
     };
     match input {
-        Input::Nothing => Ok(()),
-        Input::Line(n) => desk.call(rt, &line[0..n.min(line.len())], out),
-        Input::Tells(ms) => desk.tell(rt, ms, out),
-        Input::Mends => desk.mend(rt, out),
-        Input::Asks => desk.status(rt, out),
-        Input::Helps => desk.say(HELP, out),
+        Input::Nothing => {}
+        Input::Line(n) => desk.call(rt, &line[0..n.min(line.len())], out)?,
+        Input::Tells(ms) => desk.tell(rt, ms, out)?,
+        Input::Mends => desk.mend(rt, out)?,
+        Input::Asks => desk.status(rt, out)?,
+        Input::Helps => writeln!(out, "{HELP}")?,
     }
+    Ok(())
 }
 
 fn main(rt: HostRuntime) -> io::Result<()> {
@@ -50,7 +53,11 @@ fn main(rt: HostRuntime) -> io::Result<()> {
             break;
         }
         out.clear();
-        answer(&rt, &mut desk, read, &text, &mut line, &mut out)?;
+        match obey(&rt, &mut desk, read, &text, &mut line, &mut out) {
+            Ok(()) => {}
+            Err(Trouble::Io(error)) => return Err(error),
+            Err(trouble) => writeln!(out, "{trouble}")?,
+        }
         rt.stdout().write_all(&out)?;
     }
     Ok(())

@@ -1,18 +1,15 @@
 // Plays scripts on drives in memory, over the machine and the loop of the real program.
 #![tactic(auto)]
 
-mod machine;
 mod rehearsal;
 mod words;
 
 use console::{Text, TextLine};
-use machine::MOST_LENT;
-use rehearsal::Rehearsal;
+use rehearsal::{MOST_LENT, Rehearsal};
 use simdrives::SimDrives;
 use std::fs::File;
 use std::io::{BufRead, BufReader, Write};
 use std::{env, io};
-use words::answer_text;
 
 // Each line of a script is answered before the next is read.
 fn play_on<R: BufRead>(
@@ -27,8 +24,8 @@ fn play_on<R: BufRead>(
         out.clear();
         match text.read(script)? {
             Text::End => break,
-            Text::TooLong => answer_text(rehearsal, b"?", &mut out)?,
-            Text::Line => answer_text(rehearsal, text.text(), &mut out)?,
+            Text::TooLong => rehearsal.answer(b"?", &mut out)?,
+            Text::Line => rehearsal.answer(text.text(), &mut out)?,
         }
         rt.stdout().write_all(&out)?;
         rehearsal.check_memory()?;
@@ -41,7 +38,7 @@ fn play<R: BufRead>(rt: &HostRuntime, script: &mut R) -> io::Result<()> {
     let heap = rt.alloc();
     let line = vec![in heap; 0u8; MOST_LENT + 1]?;
     let answer = vec![in heap; 0u8; MOST_LENT + 1]?;
-    let mut rehearsal = Rehearsal::new(SimDrives::new(heap)?, line, answer);
+    let mut rehearsal = Rehearsal::new(SimDrives::new(heap), line, answer);
     play_on(rt, &mut rehearsal, script)
 }
 

@@ -1,9 +1,23 @@
-// The house on drives in memory, and what is done to both.
-use crate::machine::{House, MOST_LENT};
+// The house on drives in memory, and what is done to both. The machine is the very one that the house runs on files.
+use front::House;
+use recorder::Recorder;
 use script::{Chosen, Weak};
-use simdrives::{Choice, Counts, Power, SimDrives};
+use simdrives::{Choice, Counts, NotGone, Power, SimDrives};
 use std::alloc::AllocError;
-use std::io;
+use std::{fmt, io};
+use steps::machines::Stepper;
+use whole::{answer_line, closed_house};
+
+// The longest line of bytes that memory can be lent for.
+pub const MOST_LENT: usize = 5_243_414;
+
+// The longest line that a house hears, unless it is told otherwise.
+const LONGEST: usize = 1_048_576;
+
+// The fewest and the most sectors that a drive may have.
+const FEWEST: u64 = 8192;
+
+const MOST: u64 = 1 << 40;
 
 #[derive(Drop)]
 pub struct Rehearsal {
@@ -15,32 +29,60 @@ pub struct Rehearsal {
     pub asked: Counts,
     // whether a command has asked them for something
     pub begun: bool,
-    house: House,
+    house: House<Recorder>,
     longest: usize,
     // whether the house was opened since the power last failed
     open: bool,
     chosen: Chosen,
     // room for a line of bytes, one byte more than any that is taken, and for the answer
     pub line: Vec<u8>,
-    pub answer: Vec<u8>,
+    answer: Vec<u8>,
 }
 
 // Why a command was not done.
-#[derive(Clone, Copy)]
-pub enum Fault {
+#[derive(Debug, Drop)]
+pub enum Trouble {
+    // the power failed meanwhile, or memory for the drives did
+    Cut,
     Begun,
     OutOfRange,
     TwoWeak,
     NotGone,
+    Io(io::Error),
 }
 
-// What came of a command that may ask the drives for something.
-#[derive(Clone, Copy)]
-pub enum Came<T> {
-    To(T),
-    Cut,
+impl fmt::Display for Trouble {
+    fn fmt<W: fmt::Write>(&self, f: &mut fmt::Formatter<W>) -> fmt::Result {
+        match self {
+            Trouble::Cut => f.write_str("cut"),
+            Trouble::Begun => f.write_str("refused: the drives were asked for something before"),
+            Trouble::OutOfRange => f.write_str("refused: the number is out of range"),
+            Trouble::TwoWeak => f.write_str("refused: two other drives are weak"),
+            Trouble::NotGone => write!(f, "refused: {NotGone}"),
+            Trouble::Io(error) => write!(f, "{error}"),
+        }
+    }
 }
 
+impl From<NotGone> for Trouble {
+    fn from(_there: NotGone) -> Trouble {
+        Trouble::NotGone
+    }
+}
+
+impl From<io::Error> for Trouble {
+    fn from(error: io::Error) -> Trouble {
+        Trouble::Io(error)
+    }
+}
+
+impl From<AllocError> for Trouble {
+    fn from(error: AllocError) -> Trouble {
+        Trouble::Io(error.into())
+    }
+}
+
+// No `From`: both types are of other crates, and neither of these needs the other.
 fn choice_of(chosen: Chosen) -> Choice {
     match chosen {
         Chosen::Seed(0) => Choice::Old,
@@ -50,17 +92,26 @@ fn choice_of(chosen: Chosen) -> Choice {
     }
 }
 
+// The number of a drive.
+fn drive_of(number: u64) -> Result<usize, Trouble> {
+    if number < 6 {
+        Ok(number as usize)
+    } else {
+        Err(Trouble::OutOfRange)
+    }
+}
+
 impl Rehearsal {
     pub fn new(disks: SimDrives, line: Vec<u8>, answer: Vec<u8>) -> Rehearsal {
         let asked = disks.counts();
         Rehearsal {
             disks,
             weak: Weak::none(),
-            size: 8192,
+            size: FEWEST,
             asked,
             begun: false,
-            house: House::new(1_048_576),
-            longest: 1_048_576,
+            house: closed_house(LONGEST),
+            longest: LONGEST,
             open: false,
             chosen: Chosen::Seed(0),
             line,
@@ -68,68 +119,60 @@ impl Rehearsal {
         }
     }
 
-    pub fn set_size(&mut self, size: u64) -> Result<(), Fault> {
+    pub fn set_size(&mut self, size: u64) -> Result<(), Trouble> {
         if self.begun {
-            return Err(Fault::Begun);
+            return Err(Trouble::Begun);
         }
-        if size < 8192 || size > 1 << 40 {
-            return Err(Fault::OutOfRange);
+        if !(FEWEST..=MOST).contains(&size) {
+            return Err(Trouble::OutOfRange);
         }
         self.size = size;
         self.open = false;
         Ok(())
     }
 
-    pub fn set_longest(&mut self, longest: u64) -> Result<(), Fault> {
+    pub fn set_longest(&mut self, longest: u64) -> Result<(), Trouble> {
         if self.begun {
-            return Err(Fault::Begun);
+            return Err(Trouble::Begun);
         }
         if longest > MOST_LENT as u64 {
-            return Err(Fault::OutOfRange);
+            return Err(Trouble::OutOfRange);
         }
         self.longest = longest as usize;
         self.shut();
         Ok(())
     }
 
-    pub fn lose(&mut self, drive: u64) -> Result<(), Fault> {
-        if drive >= 6 {
-            return Err(Fault::OutOfRange);
+    pub fn lose(&mut self, number: u64) -> Result<(), Trouble> {
+        let drive = drive_of(number)?;
+        if !self.weak.may_lose(drive) {
+            return Err(Trouble::TwoWeak);
         }
-        if !self.weak.may_lose(drive as usize) {
-            return Err(Fault::TwoWeak);
-        }
-        self.weak.lost(drive as usize);
-        self.disks.lose(drive as usize);
+        self.weak.lost(drive);
+        self.disks.lose(drive);
         Ok(())
     }
 
-    pub fn replace(&mut self, drive: u64) -> Result<(), Fault> {
-        if drive >= 6 {
-            return Err(Fault::OutOfRange);
-        }
-        if self.disks.replace(drive as usize) {
-            Ok(())
-        } else {
-            Err(Fault::NotGone)
-        }
+    pub fn replace(&mut self, number: u64) -> Result<(), Trouble> {
+        self.disks.replace(drive_of(number)?)?;
+        Ok(())
     }
 
     // The house forgets what it had in memory.
     fn shut(&mut self) {
-        self.house = House::new(self.longest);
+        self.house = closed_house(self.longest);
         self.open = false;
     }
 
-    // The power fails after that many more are asked; says whether it has failed at once.
-    pub fn cut_after(&mut self, askings: u64, chosen: Chosen) -> bool {
+    // The power fails after that many more are asked.
+    pub fn cut_after(&mut self, askings: u64, chosen: Chosen) -> Result<(), Trouble> {
         self.chosen = chosen;
         if askings == 0 {
             self.cut();
-        } else {
-            self.disks.fail_after(askings);
+            return Err(Trouble::Cut);
         }
-        askings == 0
+        self.disks.fail_after(askings);
+        Ok(())
     }
 
     fn cut(&mut self) {
@@ -137,68 +180,69 @@ impl Rehearsal {
         self.shut();
     }
 
-    // Before a command that may ask for something: the house is opened, unless it is. Says whether it is then.
-    fn come_up(&mut self) -> bool {
+    // Before a command that may ask for something: the house is opened, unless it is.
+    fn come_up(&mut self) -> Result<(), Trouble> {
         self.disks.count_anew();
         if !self.open {
             self.house.open(&mut self.disks, self.size);
             self.open = self.disks.is_on();
+            self.stay_up()?;
         }
-        self.open
+        Ok(())
     }
 
-    // After such a command: says whether it was cut short.
-    fn went_down(&mut self) -> bool {
+    // After something may have been asked for: unless the power is still on, the house went down.
+    fn stay_up(&mut self) -> Result<(), Trouble> {
         let counts = self.disks.counts();
-        let cut = !self.disks.is_on();
-        if cut || counts.reads > 0 || counts.writes > 0 || counts.syncs > 0 {
+        let is_on = self.disks.is_on();
+        if !is_on || counts != Counts::default() {
             self.asked = counts;
             self.begun = true;
         }
-        if cut && !matches!(self.disks.power(), Power::NoMemory) {
+        if is_on {
+            return Ok(());
+        }
+        if self.disks.power() != Power::NoMemory {
             self.cut();
         }
-        cut
+        Err(Trouble::Cut)
     }
 
-    // Calls the house with the first bytes of the line; says how long the answer is.
-    pub fn call(&mut self, length: usize) -> Came<usize> {
-        let said = if self.come_up() {
-            let n = length.min(self.line.len());
-            self.house
-                .call(&mut self.disks, &self.line[0..n], &mut self.answer)
-        } else {
-            0
-        };
-        if self.went_down() {
-            Came::Cut
-        } else {
-            Came::To(said)
-        }
+    // Calls the house with the first bytes of the line, and gives its answer.
+    pub fn call(&mut self, length: usize) -> Result<&[u8], Trouble> {
+        self.come_up()?;
+        let n = length.min(self.line.len());
+        let said = answer_line(
+            &mut self.house,
+            &mut self.disks,
+            &self.line[0..n],
+            &mut self.answer,
+        )
+        .unwrap_or(0);
+        self.stay_up()?;
+        let n = said.min(self.answer.len());
+        Ok(&self.answer[0..n])
     }
 
     // Does one stretch of mending; says whether all is whole.
-    pub fn mend(&mut self) -> Came<bool> {
-        let whole = self.come_up() && self.house.mend(&mut self.disks);
-        if self.went_down() {
-            return Came::Cut;
-        }
+    pub fn mend(&mut self) -> Result<bool, Trouble> {
+        self.come_up()?;
+        let whole = self.house.mend(&mut self.disks);
+        self.stay_up()?;
         if whole {
             self.weak.whole(&self.disks.gone());
         }
-        Came::To(whole)
+        Ok(whole)
     }
 
     // Mends until all is whole; says how many stretches that took.
-    pub fn mend_whole(&mut self) -> Came<u64> {
+    pub fn mend_whole(&mut self) -> Result<u64, Trouble> {
         for k in 1..u64::MAX {
-            match self.mend() {
-                Came::Cut => return Came::Cut,
-                Came::To(true) => return Came::To(k),
-                Came::To(false) => {}
+            if self.mend()? {
+                return Ok(k);
             }
         }
-        Came::To(u64::MAX)
+        Ok(u64::MAX)
     }
 
     pub fn is_open(&self) -> bool {
@@ -207,7 +251,7 @@ impl Rehearsal {
 
     // Without memory for the drives the rehearsal ends.
     pub fn check_memory(&self) -> io::Result<()> {
-        if matches!(self.disks.power(), Power::NoMemory) {
+        if self.disks.power() == Power::NoMemory {
             return Err(io::Error::from(AllocError));
         }
         Ok(())

@@ -1,145 +1,116 @@
 // Lines of text to commands, and what comes of them to lines of text.
-use crate::rehearsal::{Came, Fault, Rehearsal};
+use crate::rehearsal::{Rehearsal, Trouble};
 use asks::write_time;
 use console::{Input, push_hex, understand};
 use script::{Order, read_order};
-use std::alloc::AllocError;
 use std::io::Write;
+use std::{fmt, io};
 
-const HELP: &[u8] =
-    b"help: drives N, longest N, in HEX, time T, mend, mend whole, status, lose I, replace I, asked, cut N SEED, cut N bits B\n";
+const HELP: &str =
+    "help: drives N, longest N, in HEX, time T, mend, mend whole, status, lose I, replace I, asked, cut N SEED, cut N bits B";
 
-fn say(out: &mut Vec<u8>, text: &[u8]) -> Result<(), AllocError> {
-    out.extend_from_slice(text)
-}
+// The numbers of the drives that a test holds of.
+#[derive(Clone, Copy)]
+struct Those([bool; 6]);
 
-fn say_number(out: &mut Vec<u8>, n: u64) -> Result<(), AllocError> {
-    let heap = *out.allocator();
-    let text = format!(in heap; "{n}")?;
-    say(out, text.as_bytes())
-}
-
-fn say_done(out: &mut Vec<u8>, done: Result<(), Fault>) -> Result<(), AllocError> {
-    match done {
-        Ok(()) => Ok(()),
-        Err(Fault::Begun) => say(
-            out,
-            b"refused: the drives were asked for something before\n",
-        ),
-        Err(Fault::OutOfRange) => say(out, b"refused: the number is out of range\n"),
-        Err(Fault::TwoWeak) => say(out, b"refused: two other drives are weak\n"),
-        Err(Fault::NotGone) => say(out, b"refused: the drive is not gone\n"),
-    }
-}
-
-// Calls the house with a line of that length.
-fn say_call(r: &mut Rehearsal, length: usize, out: &mut Vec<u8>) -> Result<(), AllocError> {
-    match r.call(length) {
-        Came::Cut => say(out, b"cut\n"),
-        Came::To(n) => {
-            let n = n.min(r.answer.len());
-            say(out, b"out ")?;
-            push_hex(out, &r.answer[0..n])?;
-            say(out, b"\n")
+impl fmt::Display for Those {
+    fn fmt<W: fmt::Write>(&self, f: &mut fmt::Formatter<W>) -> fmt::Result {
+        if !self.0.contains(&true) {
+            return f.write_str(" none");
         }
-    }
-}
-
-// The call that tells the time: 13 bytes follow the length, the tag is 0, the kind is 14.
-fn say_time(r: &mut Rehearsal, ms: u64, out: &mut Vec<u8>) -> Result<(), AllocError> {
-    let n = write_time(0, ms, &mut r.line).unwrap_or(0);
-    say_call(r, n, out)
-}
-
-fn say_mend(r: &mut Rehearsal, out: &mut Vec<u8>) -> Result<(), AllocError> {
-    match r.mend() {
-        Came::Cut => say(out, b"cut\n"),
-        Came::To(true) => say(out, b"whole\n"),
-        Came::To(false) => say(out, b"working\n"),
-    }
-}
-
-fn say_mend_whole(r: &mut Rehearsal, out: &mut Vec<u8>) -> Result<(), AllocError> {
-    match r.mend_whole() {
-        Came::Cut => say(out, b"cut\n"),
-        Came::To(k) => {
-            say(out, b"whole ")?;
-            say_number(out, k)?;
-            say(out, b"\n")
-        }
-    }
-}
-
-fn say_asked(r: &Rehearsal, out: &mut Vec<u8>) -> Result<(), AllocError> {
-    say(out, b"asked ")?;
-    say_number(out, r.asked.reads)?;
-    say(out, b" ")?;
-    say_number(out, r.asked.writes)?;
-    say(out, b" ")?;
-    say_number(out, r.asked.syncs)?;
-    say(out, b"\n")
-}
-
-// Names the drives that a test holds of.
-fn say_drives(out: &mut Vec<u8>, are: &[bool; 6]) -> Result<(), AllocError> {
-    let mut none = true;
-    for i in 0..6usize {
-        if are[i] {
-            none = false;
-            say(out, &[b' ', b'0' + i as u8])?;
-        }
-    }
-    if none { say(out, b" none") } else { Ok(()) }
-}
-
-fn say_status(r: &Rehearsal, out: &mut Vec<u8>) -> Result<(), AllocError> {
-    say(out, b"status: six drives of ")?;
-    say_number(out, r.size)?;
-    say(out, b" sectors; gone:")?;
-    say_drives(out, &r.disks.gone())?;
-    say(out, b"; weak:")?;
-    say_drives(out, &r.weak.drives)?;
-    say(
-        out,
-        if r.is_open() {
-            b"; the house is open\n"
-        } else {
-            b"; the house is shut\n"
-        },
-    )
-}
-
-// What both programs are told.
-fn answer_input(r: &mut Rehearsal, input: Input, out: &mut Vec<u8>) -> Result<(), AllocError> {
-    match input {
-        Input::Nothing => Ok(()),
-        Input::Line(n) => say_call(r, n, out),
-        Input::Tells(ms) => say_time(r, ms, out),
-        Input::Mends => say_mend(r, out),
-        Input::Asks => say_status(r, out),
-        Input::Helps => say(out, HELP),
-    }
-}
-
-// Answers a line of text after what `out` holds.
-pub fn answer_text(r: &mut Rehearsal, text: &[u8], out: &mut Vec<u8>) -> Result<(), AllocError> {
-    match read_order(text) {
-        Order::Drives(n) => say_done(out, r.set_size(n)),
-        Order::Longest(n) => say_done(out, r.set_longest(n)),
-        Order::MendWhole => say_mend_whole(r, out),
-        Order::Lose(i) => say_done(out, r.lose(i)),
-        Order::Replace(i) => say_done(out, r.replace(i)),
-        Order::Asked => say_asked(r, out),
-        Order::Cut { after, chosen } => {
-            if r.cut_after(after, chosen) {
-                say(out, b"cut\n")
-            } else {
-                Ok(())
+        for (i, holds) in self.0.iter().enumerate() {
+            if *holds {
+                write!(f, " {i}")?;
             }
         }
-        Order::Other => {
-            let input = understand(text, &mut r.line);
-            answer_input(r, input, out)
+        Ok(())
+    }
+}
+
+impl Rehearsal {
+    // Calls the house with a line of that length.
+    fn say_call(&mut self, length: usize, out: &mut Vec<u8>) -> Result<(), Trouble> {
+        let answer = self.call(length)?;
+        write!(out, "out ")?;
+        push_hex(out, answer)?;
+        writeln!(out)?;
+        Ok(())
+    }
+
+    // The call that tells the time: 13 bytes follow the length, the tag is 0, the kind is 14.
+    fn say_time(&mut self, ms: u64, out: &mut Vec<u8>) -> Result<(), Trouble> {
+        let n = write_time(0, ms, &mut self.line).unwrap_or(0);
+        self.say_call(n, out)
+    }
+
+    fn say_mend(&mut self, out: &mut Vec<u8>) -> Result<(), Trouble> {
+        let how = if self.mend()? { "whole" } else { "working" };
+        writeln!(out, "{how}")?;
+        Ok(())
+    }
+
+    fn say_mend_whole(&mut self, out: &mut Vec<u8>) -> Result<(), Trouble> {
+        let stretches = self.mend_whole()?;
+        writeln!(out, "whole {stretches}")?;
+        Ok(())
+    }
+
+    fn say_asked(&self, out: &mut Vec<u8>) -> io::Result<()> {
+        let asked = self.asked;
+        writeln!(
+            out,
+            "asked {} {} {}",
+            asked.reads, asked.writes, asked.syncs
+        )
+    }
+
+    fn say_status(&self, out: &mut Vec<u8>) -> io::Result<()> {
+        let size = self.size;
+        let gone = Those(self.disks.gone());
+        let weak = Those(self.weak.drives);
+        let how = if self.is_open() { "open" } else { "shut" };
+        writeln!(
+            out,
+            "status: six drives of {size} sectors; gone:{gone}; weak:{weak}; the house is {how}"
+        )
+    }
+
+    // What both programs are told.
+    fn answer_input(&mut self, input: Input, out: &mut Vec<u8>) -> Result<(), Trouble> {
+        match input {
+            Input::Nothing => {}
+            Input::Line(n) => self.say_call(n, out)?,
+            Input::Tells(ms) => self.say_time(ms, out)?,
+            Input::Mends => self.say_mend(out)?,
+            Input::Asks => self.say_status(out)?,
+            Input::Helps => writeln!(out, "{HELP}")?,
+        }
+        Ok(())
+    }
+
+    fn obey(&mut self, text: &[u8], out: &mut Vec<u8>) -> Result<(), Trouble> {
+        match read_order(text) {
+            Order::Drives(n) => self.set_size(n)?,
+            Order::Longest(n) => self.set_longest(n)?,
+            Order::MendWhole => self.say_mend_whole(out)?,
+            Order::Lose(i) => self.lose(i)?,
+            Order::Replace(i) => self.replace(i)?,
+            Order::Asked => self.say_asked(out)?,
+            Order::Cut { after, chosen } => self.cut_after(after, chosen)?,
+            Order::Other => {
+                let input = understand(text, &mut self.line);
+                self.answer_input(input, out)?
+            }
+        }
+        Ok(())
+    }
+
+    // Answers a line of text after what `out` holds.
+    pub fn answer(&mut self, text: &[u8], out: &mut Vec<u8>) -> io::Result<()> {
+        match self.obey(text, out) {
+            Ok(()) => Ok(()),
+            Err(Trouble::Io(error)) => Err(error),
+            Err(trouble) => writeln!(out, "{trouble}"),
         }
     }
 }

@@ -1,6 +1,6 @@
 -- What writes, a sync and a cut make of a drive that is told by what it holds and what it held.
 -- Assumes nothing.
-use Rattle.std.proofs.Common.{◌≡◌, ℕ, zero, suc, Bool, true, false, cond, eqb, ◌⊎◌, List, [], ◌∷◌, ◌++◌, reverse, length, replicate, sym, refl, ap, ◌∙◌, subst, inl, inr, ⊎_elim, append_assoc, arith, eq-eqb, eqb-true}
+use Rattle.std.proofs.Common.{◌≡◌, ℕ, zero, suc, Bool, true, false, cond, eqb, ◌⊎◌, List, [], ◌∷◌, ◌++◌, reverse, replicate, sym, refl, ap, ◌∙◌, subst, inl, inr, ⊎_elim, append_assoc, eq-eqb, eqb-true}
 use mathlib.Core.List.{Memᴰ}
 use Rattle.std.proofs.lemmas.List.{reverse-append}
 use Rattle.drives.specs.Drives.{Drive, there, zeros, blank_drive, latest, shown, written_to, synced_one, CutSlot, cut}
@@ -139,10 +139,6 @@ pub back_among : (f g h : ℕ → List ℕ) (done xs ys all : List Before) (w : 
 back_among f g h done xs ys all w p q a here other =
     let e = back_all done xs ys all w p q in
     subst (λ (zs : List Before). Among (drive_by f zs) h) (sym e) (among_back f g h done (reverse ys) w (subst (λ (zs : List Before). Among (drive_by f zs) g) e a) here other)
-
-pub none_left : (xs : List Before) → length xs ≡ 0 → xs ≡ []
-none_left [] e = refl
-none_left (x ∷ xs) e = absurd (omega arith)
 
 pub cut_all : (d : Drive) (g : ℕ → List ℕ) (xs : List Before) → xs ≡ [] → Among d g → CutSlot (there d) (there (drive_by g (reverse xs)))
 cut_all d g xs e a = subst (λ (ys : List Before). CutSlot (there d) (there (drive_by g (reverse ys)))) (sym e) (cut_so d g a)

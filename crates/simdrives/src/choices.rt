@@ -5,7 +5,7 @@ ghost use Rattle.simdrives.specs.Chances.{stirred, mixed_of, undoes, chosen_next
 use std::collections::BTreeMap;
 
 // Of the contents since the last sync: all old, all the newest, some by a seed, or by the bits of a number, the lowest for the first sector that has such contents.
-#[derive(Clone, Copy)]
+#[derive(Clone, Copy, Debug, PartialEq, Eq)]
 pub enum Choice {
     Old,
     Newest,
@@ -13,18 +13,19 @@ pub enum Choice {
     Bits(u64),
 }
 
-fn stir(x: u64, y: u64, m: u64) -> u64
-    ensures { (k : ℕ) → y ≡ x / 2 ^ k → result ≡ stirred k m x }
+fn stir(x: u64, k: u32, m: u64) -> u64
+    requires { k < 64 }
+    ensures { result ≡ stirred k m x }
 {
-    (x ^ y).wrapping_mul(m)
+    (x ^ (x >> k)).wrapping_mul(m)
 }
 
 // What a state of splitmix64 gives.
 fn mixed(state: u64) -> u64
     ensures { result ≡ mixed_of state }
 {
-    let a = stir(state, state >> 30, 0xbf58_476d_1ce4_e5b9);
-    let b = stir(a, a >> 27, 0x94d0_49bb_1331_11eb);
+    let a = stir(state, 30, 0xbf58_476d_1ce4_e5b9);
+    let b = stir(a, 27, 0x94d0_49bb_1331_11eb);
     b ^ (b >> 31)
 }
 

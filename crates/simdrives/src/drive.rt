@@ -1,11 +1,11 @@
 // One drive in memory.
-ghost use Rattle.std.specs.Prelude.{◌≡◌, ℕ, false, ◌⊎◌, if◌then◌else◌, ◌==◌};
+ghost use Rattle.std.specs.Prelude.{◌≡◌, ℕ, false, ◌⊎◌, if◌then◌else◌, ◌==◌, is_ok};
 ghost use Rattle.drives.specs.Drives.{blank_drive, there, shown, written_to, synced_one, CutSlot};
 ghost use Rattle.simdrives.specs.Sims.{bytes_before, holds_at, drive_of, slot_of};
 
 use crate::choices::Choice;
 use crate::sectors::{Before, Sectors};
-use std::alloc::Global;
+use std::alloc::{AllocError, Global};
 use std::collections::BTreeMap;
 
 impl Sectors {
@@ -18,35 +18,26 @@ impl Sectors {
         }
     }
 
-    pub fn read(&self, sector: u64, into: &mut [u8; 512])
-        ensures { into.new ≡ shown (there (drive_of self.now)) sector }
+    pub fn read(&self, sector: u64) -> [u8; 512]
+        ensures { result ≡ shown (there (drive_of self.now)) sector }
     {
         match self.holds.get(&sector) {
-            Some(bytes) => *into = **bytes,
-            None => *into = [0; 512],
+            Some(bytes) => **bytes,
+            None => [0; 512],
         }
     }
 
-    // Says whether there was memory for it.
-    pub fn write(&mut self, heap: Global, sector: u64, bytes: &[u8; 512]) -> bool
-        ensures { there (drive_of self.new) ≡ (if result then written_to sector bytes.now (there (drive_of self.old)) else there (drive_of self.old)) }
+    pub fn write(&mut self, heap: Global, sector: u64, bytes: &[u8; 512]) -> Result<(), AllocError>
+        ensures { there (drive_of self.new) ≡ (if is_ok result then written_to sector bytes.now (there (drive_of self.old)) else there (drive_of self.old)) }
     {
-        if self.undo.reserve(1).is_err() {
-            return false;
-        }
-        let Ok(held) = Box::new(heap, *bytes) else {
-            return false;
-        };
-        match self.holds.insert(sector, held) {
-            Ok(before) => {
-                self.undo.push_reserved(Before {
-                    sector,
-                    bytes: before,
-                });
-                true
-            }
-            Err(_) => false,
-        }
+        self.undo.reserve(1)?;
+        let held = Box::new(heap, *bytes)?;
+        let before = self.holds.insert(sector, held)?;
+        self.undo.push_reserved(Before {
+            sector,
+            bytes: before,
+        });
+        Ok(())
     }
 
     pub fn sync(&mut self)
@@ -76,11 +67,10 @@ impl Sectors {
     fn tally(&self, heap: Global) -> BTreeMap<u64, u64> {
         let mut counts = BTreeMap::new(heap);
         for before in self.undo.iter() {
-            let n = match counts.get(&before.sector) {
-                Some(n) => *n,
-                None => 0u64,
-            };
-            let _ = counts.insert(before.sector, n.saturating_add(1));
+            if let Ok(entry) = counts.entry(before.sector) {
+                let n = entry.or_insert(0u64);
+                *n = n.saturating_add(1);
+            }
         }
         counts
     }
@@ -109,57 +99,45 @@ impl Sectors {
 // Whether a count was above 0: then it is one less.
 fn one_less(counts: &mut BTreeMap<u64, u64>, sector: u64) -> bool {
     match counts.get_mut(&sector) {
-        Some(n) => {
-            if *n == 0 {
-                return false;
-            }
+        Some(n) if *n > 0 => {
             *n -= 1;
             true
         }
-        None => false,
+        _ => false,
     }
 }
 
-// What a write makes of a drive that may be gone, and whether there was memory for it.
-pub fn written(
-    slot: Option<Sectors>,
+// Of a drive that is gone each of these changes nothing.
+
+#[tactic(auto, unfolding(drives::specs::Drives::written_to))]
+pub fn write(
+    slot: &mut Option<Sectors>,
     heap: Global,
     sector: u64,
     bytes: &[u8; 512],
-) -> (Option<Sectors>, bool)
-    ensures { slot_of result.0 ≡ (if result.1 then written_to sector bytes.now (slot_of slot) else slot_of slot) }
+) -> Result<(), AllocError>
+    ensures { slot_of slot.new ≡ (if is_ok result then written_to sector bytes.now (slot_of slot.old) else slot_of slot.old) }
 {
     match slot {
-        Some(mut d) => {
-            let done = d.write(heap, sector, bytes);
-            (Some(d), done)
-        }
-        None => (None, true),
+        Some(d) => d.write(heap, sector, bytes),
+        None => Ok(()),
     }
 }
 
-// What a sync makes of it.
-pub fn synced(slot: Option<Sectors>) -> Option<Sectors>
-    ensures { slot_of result ≡ synced_one (slot_of slot) }
+#[tactic(auto, unfolding(drives::specs::Drives::synced_one))]
+pub fn sync(slot: &mut Option<Sectors>)
+    ensures { slot_of slot.new ≡ synced_one (slot_of slot.old) }
 {
-    match slot {
-        Some(mut d) => {
-            d.sync();
-            Some(d)
-        }
-        None => None,
+    if let Some(d) = slot {
+        d.sync();
     }
 }
 
-// What a cut may leave of it.
-pub fn after_cut(slot: Option<Sectors>, heap: Global, choice: &mut Choice) -> Option<Sectors>
-    ensures { CutSlot (slot_of slot) (slot_of result) }
+// Leaves what a cut may leave.
+pub fn cut(slot: &mut Option<Sectors>, heap: Global, choice: &mut Choice)
+    ensures { CutSlot (slot_of slot.old) (slot_of slot.new) }
 {
-    match slot {
-        Some(mut d) => {
-            d.cut(heap, choice);
-            Some(d)
-        }
-        None => None,
+    if let Some(d) = slot {
+        d.cut(heap, choice);
     }
 }

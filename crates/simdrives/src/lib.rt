@@ -1,25 +1,27 @@
 // Six drives in memory that can be lost, replaced and cut.
 #![tactic(auto)]
 
-ghost use Rattle.std.specs.Prelude.{◌≡◌, ℕ, ◌<◌, Bool, true, false, List, [], length, IfOk, if◌then◌else◌, ◌≢◌, slice_index_or, unwrap_or};
-ghost use Rattle.drives.specs.Drives.{Drives, gone, there, blank_drive, shown, written_to, synced_one, put, AfterCut, CutSlot};
+ghost use Rattle.std.specs.Prelude.{◌≡◌, ℕ, ◌<◌, Bool, true, [], if◌then◌else◌, slice_index_or, unwrap_or, OnOk, OnErr, IsOk};
+ghost use Rattle.drives.specs.Drives.{gone, there, blank_drive, shown, written_to, synced_one, put, AfterCut};
 ghost use Rattle.drives.specs.Machines.{is_gone};
 ghost use Rattle.simdrives.specs.Sims.{slots};
 ghost use Rattle.simdrives.specs.Powers.{works, asked_of};
 
 use driver::Disks;
-use std::alloc::{AllocError, Global};
+use std::alloc::Global;
+use std::error::Error;
+use std::fmt;
 
 mod choices;
 mod drive;
 mod sectors;
 
 pub use choices::Choice;
-use drive::{after_cut, synced, written};
+use drive::{cut, sync, write};
 use sectors::Sectors;
 
 // Whether what is asked is carried out: always, or so many times more, or no longer, since the power failed or memory did.
-#[derive(Clone, Copy)]
+#[derive(Clone, Copy, Debug, PartialEq, Eq)]
 pub enum Power {
     On,
     Fails(u64),
@@ -28,42 +30,46 @@ pub enum Power {
 }
 
 // What was asked and carried out.
-#[derive(Clone, Copy)]
+#[derive(Clone, Copy, Debug, Default, PartialEq, Eq)]
 pub struct Counts {
     pub reads: u64,
     pub writes: u64,
     pub syncs: u64,
 }
 
+// A drive that was to be replaced is there.
+#[derive(Clone, Copy, Debug, PartialEq, Eq)]
+pub struct NotGone;
+
+impl fmt::Display for NotGone {
+    fn fmt<W: fmt::Write>(&self, f: &mut fmt::Formatter<W>) -> fmt::Result {
+        f.write_str("the drive is not gone")
+    }
+}
+
+impl Error for NotGone {}
+
 #[derive(Drop)]
 pub struct SimDrives {
-    drives: Vec<Option<Sectors>>,
+    drives: [Option<Sectors>; 6],
     heap: Global,
     power: Power,
     counts: Counts,
 }
 
-const NONE: Counts = Counts {
-    reads: 0,
-    writes: 0,
-    syncs: 0,
-};
-
 impl SimDrives {
     // Six blank drives.
-    pub fn new(heap: Global) -> Result<SimDrives, AllocError>
-        ensures { IfOk result (λ d. ((i : ℕ) → i < 6 → slots d.drives.items i ≡ there blank_drive) × (d.power ≡ Power.On)) }
+    pub fn new(heap: Global) -> SimDrives
+        ensures drives { (i : ℕ) → i < 6 → slots result.drives i ≡ there blank_drive }
+        ensures power { result.power ≡ Power.On }
     {
-        let mut drives = Vec::new(heap);
-        for _i in 0..6u8 {
-            drives.push(Some(Sectors::new(heap)))?;
-        }
-        Ok(SimDrives {
-            drives,
+        let blank = || Some(Sectors::new(heap));
+        SimDrives {
+            drives: [blank(), blank(), blank(), blank(), blank(), blank()],
             heap,
             power: Power::On,
-            counts: NONE,
-        })
+            counts: Counts::default(),
+        }
     }
 
     pub fn counts(&self) -> Counts
@@ -76,7 +82,7 @@ impl SimDrives {
     pub fn count_anew(&mut self)
         ensures { self.new ≡ record { drives = self.old.drives; heap = self.old.heap; power = self.old.power; counts = record { reads = 0; writes = 0; syncs = 0 } } }
     {
-        self.counts = NONE;
+        self.counts = Counts::default();
     }
 
     pub fn power(&self) -> Power
@@ -89,12 +95,7 @@ impl SimDrives {
     pub fn is_on(&self) -> bool
         ensures { result ≡ works self.now.power }
     {
-        match self.power {
-            Power::On => true,
-            Power::Fails(_) => true,
-            Power::Off => false,
-            Power::NoMemory => false,
-        }
+        matches!(self.power, Power::On | Power::Fails(_))
     }
 
     // The power fails after that many more are carried out.
@@ -104,67 +105,45 @@ impl SimDrives {
         self.power = Power::Fails(askings);
     }
 
-    fn is_gone(&self, drive: usize) -> bool
-        ensures { result ≡ is_gone (slots self.now.drives.items drive) }
-    {
-        if drive < self.drives.len() {
-            self.drives[drive].is_none()
-        } else {
-            true
-        }
-    }
-
     // Which drives are gone.
     pub fn gone(&self) -> [bool; 6]
-        ensures { (i : ℕ) → i < 6 → slice_index_or result i true ≡ is_gone (slots self.now.drives.items i) }
+        ensures { (i : ℕ) → i < 6 → slice_index_or result i true ≡ is_gone (slots self.now.drives i) }
     {
-        let mut gone = [false; 6];
-        for i in 0..6usize {
-            gone[i] = self.is_gone(i);
-        }
-        gone
+        self.drives.each_ref().map(|d| d.is_none())
     }
 
+    // Here and below the index is tested by hand: of an array that was written through `get_mut` a proof knows only the length.
     pub fn lose(&mut self, drive: usize)
-        ensures { slots self.new.drives.items ≡ put drive gone (slots self.old.drives.items) }
+        ensures { slots self.new.drives ≡ put drive gone (slots self.old.drives) }
     {
         if drive < self.drives.len() {
             self.drives[drive] = None;
         }
     }
 
-    // A blank drive in the place of one that is gone; says whether it was.
-    pub fn replace(&mut self, drive: usize) -> bool
-        ensures test { result ≡ true → slots self.old.drives.items drive ≡ gone }
-        ensures drives { slots self.new.drives.items ≡ (if result then put drive (there blank_drive) (slots self.old.drives.items) else slots self.old.drives.items) }
+    // A blank drive in the place of one that is gone.
+    pub fn replace(&mut self, drive: usize) -> Result<(), NotGone>
+        ensures test { OnOk result (slots self.old.drives drive ≡ gone) }
+        ensures ok { OnOk result (slots self.new.drives ≡ put drive (there blank_drive) (slots self.old.drives)) }
+        ensures err { OnErr result (slots self.new.drives ≡ slots self.old.drives) }
+        ensures always { drive < 6 → slots self.old.drives drive ≡ gone → IsOk result }
     {
         if drive < self.drives.len() && self.drives[drive].is_none() {
             self.drives[drive] = Some(Sectors::new(self.heap));
-            true
+            Ok(())
         } else {
-            false
+            Err(NotGone)
         }
     }
 
-    // Leaves what a cut may leave of one drive.
-    fn cut_one(&mut self, drive: usize, choice: &mut Choice)
-        ensures here { CutSlot (slots self.old.drives.items drive) (slots self.new.drives.items drive) }
-        ensures other { (i : ℕ) → (i ≢ drive) → slots self.new.drives.items i ≡ slots self.old.drives.items i }
-    {
-        if drive < self.drives.len() {
-            let slot = std::mem::replace(&mut self.drives[drive], None);
-            self.drives[drive] = after_cut(slot, self.heap, choice);
-        }
-    }
-
-    // The power fails, and comes back.
-    pub fn cut(&mut self, choice: Choice)
-        ensures drives { AfterCut (slots self.old.drives.items) (slots self.new.drives.items) }
+    // The power fails, and comes back: of each drive is left what a cut may leave.
+    pub fn cut(&mut self, mut choice: Choice)
+        ensures drives { AfterCut (slots self.old.drives) (slots self.new.drives) }
         ensures power { self.new.power ≡ Power.On }
     {
-        let mut choice = choice;
-        for i in 0..self.drives.len() {
-            self.cut_one(i, &mut choice);
+        let heap = self.heap;
+        for slot in self.drives.iter_mut() {
+            cut(slot, heap, &mut choice);
         }
         self.power = Power::On;
     }
@@ -184,49 +163,38 @@ impl SimDrives {
                 };
                 n > 0
             }
-            Power::Off => false,
-            Power::NoMemory => false,
+            Power::Off | Power::NoMemory => false,
         }
     }
 
-    // What the sector holds; nothing where there is no sector to be read, or the power is off.
+    // The sector, if there is one to be read while the power is on.
     fn read_one(&mut self, drive: usize, sector: u64) -> Option<[u8; 512]>
         ensures on { self.new.power ≡ asked_of self.old.power }
-        ensures same { slots self.new.drives.items ≡ slots self.old.drives.items }
-        ensures value { unwrap_or result [] ≡ (if works self.new.power then shown (slots self.old.drives.items drive) sector else []) }
+        ensures same { slots self.new.drives ≡ slots self.old.drives }
+        ensures value { unwrap_or result [] ≡ (if works self.new.power then shown (slots self.old.drives drive) sector else []) }
     {
         if !self.carries_on() {
             return None;
         }
         self.counts.reads = self.counts.reads.saturating_add(1);
-        if drive < self.drives.len() {
-            match &self.drives[drive] {
-                Some(d) => {
-                    let mut bytes = [0; 512];
-                    d.read(sector, &mut bytes);
-                    Some(bytes)
-                }
-                None => None,
-            }
-        } else {
-            None
+        match self.drives.get(drive) {
+            Some(Some(d)) => Some(d.read(sector)),
+            _ => None,
         }
     }
 
     // Without memory nothing is written, and nothing more is carried out.
     fn write_one(&mut self, drive: usize, sector: u64, bytes: &[u8; 512])
         ensures on { works self.new.power ≡ true → self.new.power ≡ asked_of self.old.power }
-        ensures drives { slots self.new.drives.items ≡ (if works self.new.power then put drive (written_to sector bytes.now (slots self.old.drives.items drive)) (slots self.old.drives.items) else slots self.old.drives.items) }
+        ensures drives { slots self.new.drives ≡ (if works self.new.power then put drive (written_to sector bytes.now (slots self.old.drives drive)) (slots self.old.drives) else slots self.old.drives) }
     {
         if !self.carries_on() {
             return;
         }
         self.counts.writes = self.counts.writes.saturating_add(1);
         if drive < self.drives.len() {
-            let slot = std::mem::replace(&mut self.drives[drive], None);
-            let (slot, done) = written(slot, self.heap, sector, bytes);
-            self.drives[drive] = slot;
-            if !done {
+            let done = write(&mut self.drives[drive], self.heap, sector, bytes);
+            if done.is_err() {
                 self.power = Power::NoMemory;
             }
         }
@@ -234,22 +202,21 @@ impl SimDrives {
 
     fn sync_one(&mut self, drive: usize)
         ensures on { self.new.power ≡ asked_of self.old.power }
-        ensures drives { slots self.new.drives.items ≡ (if works self.new.power then put drive (synced_one (slots self.old.drives.items drive)) (slots self.old.drives.items) else slots self.old.drives.items) }
+        ensures drives { slots self.new.drives ≡ (if works self.new.power then put drive (synced_one (slots self.old.drives drive)) (slots self.old.drives) else slots self.old.drives) }
     {
         if !self.carries_on() {
             return;
         }
         self.counts.syncs = self.counts.syncs.saturating_add(1);
         if drive < self.drives.len() {
-            let slot = std::mem::replace(&mut self.drives[drive], None);
-            self.drives[drive] = synced(slot);
+            sync(&mut self.drives[drive]);
         }
     }
 }
 
 // Of drives that may fail at any time nothing is known beforehand, so the clauses of `Disks` say nothing here: what is carried out is said by `read_one`, `write_one` and `sync_one`.
 impl Disks for SimDrives {
-    ghost model = { λ s. slots s.drives.items };
+    ghost model = { λ s. slots s.drives };
 
     ghost known = { λ _. ⊥ };
 
@@ -281,7 +248,7 @@ mod tests {
     // Sectors 5 and 7 are not synced: the first bit leaves 5 old, the second leaves 7 new.
     #[test]
     fn cuts_by_bits(rt: HostRuntime) -> Result<(), Fail> {
-        let mut d = SimDrives::new(rt.alloc())?;
+        let mut d = SimDrives::new(rt.alloc());
         d.write(0, 5, &[1; 512]);
         d.sync(0);
         d.write(0, 7, &[4; 512]);
@@ -298,7 +265,7 @@ mod tests {
 
     #[test]
     fn fails_in_time(rt: HostRuntime) -> Result<(), Fail> {
-        let mut d = SimDrives::new(rt.alloc())?;
+        let mut d = SimDrives::new(rt.alloc());
         d.fail_after(1);
         d.write(1, 5, &[1; 512]);
         assert!(rt; d.is_on());

@@ -1,19 +1,16 @@
-use Rattle.std.proofs.Common.{◌<◌, true, ◌≢◌, length, refl, ◌∙◌, arith, length-set, get_or-set_other, get_or-set_same, below_more}
+use Rattle.std.proofs.Common.{◌≡◌, Bor, Option, true, not, is_some, None, get_or, sym, ap, ◌∙◌, rules, of_calls}
+use Rattle.std.proofs.Math.ListN.{get_or-map}
+use Rattle.drives.specs.Machines.{is_gone}
+use Rattle.simdrives.specs.Sims.{slot_of}
+use Rattle.simdrives.specs.declared.sectors.Sectors.{Sectors}
+use Rattle.simdrives.proofs.Slotted.{told_gone}
 use Rattle.simdrives.proofs.SimDrives.gone.Goals as goal
 
-pub loop-i-init : goal.loop-i-init
-loop-i-init c = (refl, λ k h. absurd (omega arith))
-
-pub loop-i-preserved : goal.loop-i-preserved
-loop-i-preserved c =
-    let i = c.loop-i.i in
-    let g = c.loop-i.gone in
-    let r = c.is_gone.result in
-    let n = c.loop-i.invariant.0 in
-    let lt : i < length g = omega arith in (
-      simp length-set n,
-      below_more _ _ (λ k h. let ne : k ≢ i = omega arith in get_or-set_other g i k r true ne ∙ c.loop-i.invariant.1 k h) (get_or-set_same g i r true lt ∙ c.is_gone.ensures),
-    )
-
 pub returns : goal.returns
-returns c = λ k h. c.loop-i.invariant.1 k (omega arith)
+returns c = λ i h.
+    let none : Bor (Option Sectors) = record { ref_ptr = c.args.self.ref_ptr; now = None } in
+    let call = (c.map.ensures.items.at i none true h).2 in
+    let drive = (get_or c.each_ref.result i none).now in
+    let tells : is_some drive ≡ not (get_or c.map.result i true) = search (rules, of_calls) in
+    let same : drive ≡ get_or c.args.self.now.drives i None = sym (get_or-map (λ r. r.now) c.each_ref.result i none) ∙ ap (λ ds. get_or ds i None) c.each_ref.ensures.items in
+    told_gone drive _ tells ∙ ap (λ o. is_gone (slot_of o)) same

@@ -1,6 +1,7 @@
 use Rattle.std.proofs.Common.{◌≡◌, [], ◌∷◌, ◌++◌, reverse, length, vec_items, sym, refl, ap, ◌∙◌, arith}
+use Rattle.std.proofs.lemmas.List.{nil_from_length}
 use Rattle.simdrives.specs.Sims.{holds_at, drive_of}
-use Rattle.simdrives.proofs.Undone.{among_first, back_among, back_rest, none_left, cut_all}
+use Rattle.simdrives.proofs.Undone.{among_first, back_among, back_rest, cut_all}
 use Rattle.simdrives.proofs.sectors.Sectors.go_back.Goals as goal
 
 pub loop-before-init : goal.loop-before-init
@@ -39,4 +40,4 @@ pub returns : goal.returns
 returns c =
     let v = c.pop.new.self in
     let n : length (vec_items v) ≡ 0 = omega (arith, v.ok.0, c.in_default.ensures.cases.1) in
-    cut_all (drive_of c.args.self.now) (holds_at c.loop-before.self) (vec_items v) (none_left (vec_items v) n) c.loop-before.invariant.0
+    cut_all (drive_of c.args.self.now) (holds_at c.loop-before.self) (vec_items v) (nil_from_length (vec_items v) n) c.loop-before.invariant.0
