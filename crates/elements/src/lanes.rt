@@ -20,6 +20,7 @@ pub(crate) fn doubled(x: Lanes) -> Lanes
 }
 
 // The elements of P.
+#[tactic(auto, using(crate::proofs::Words::summed_lanes))]
 pub(crate) fn summed(w: Lanes, x: Lanes, y: Lanes, z: Lanes) -> Lanes
     ensures { result ≡ parity_p w x y z }
 {
@@ -27,6 +28,7 @@ pub(crate) fn summed(w: Lanes, x: Lanes, y: Lanes, z: Lanes) -> Lanes
 }
 
 // The elements of Q, by Horner's rule: three doublings and no product.
+#[tactic(auto, using(crate::proofs::Words::weighted_lanes))]
 pub(crate) fn weighted(w: Lanes, x: Lanes, y: Lanes, z: Lanes) -> Lanes
     ensures { result ≡ parity_q w x y z }
 {
@@ -60,6 +62,7 @@ fn picked(x: Lanes, c: u8, k: u32) -> Lanes
 }
 
 // The sums by the bits from k on, of those by the bits above k: one step of Horner's rule.
+#[tactic(auto, using(crate::proofs::Blends::blend_bit))]
 fn stepped<const A: u8, const B: u8, const C: u8, const D: u8>(
     sum: Lanes,
     w: Lanes,
