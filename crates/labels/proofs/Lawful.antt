@@ -11,9 +11,6 @@ use Rattle.root.proofs.Root.{root_stands}
 use Rattle.labels.specs.Restricted.{Part, LawfulPart, widened, narrowed, restricted}
 use Rattle.labels.specs.Times.{Time, time_of, number, payload_of, time_in, times, timed, LabelsStand}
 
-apart : ◌≡◌ {A = ℕ} 0 1 → ⊥
-apart z = omega arith
-
 -- A RESTRICTED CODEC IS LAWFUL
 
 module _ {V W : Type 0} {p : Part V W} (h : LawfulPart p) where
@@ -25,11 +22,11 @@ module _ {V W : Type 0} {p : Part V W} (h : LawfulPart p) where
   narrow_there (has (committed v)) = ap (map (λ x. has (committed x))) (h.there v)
 
   out_back : (w : W) (o : Option V) (l : Label V) → p.out w ≡ o → map (λ v. has (committed v)) o ≡ some l → has (committed w) ≡ widened p l
-  out_back w none l e q = absurd (apart (cc))
+  out_back w none l e q = cc
   out_back w (some v) l e q = let i : p.into v ≡ w = h.back w v e in let j : has (committed v) ≡ l = cc in subst (λ x. has (committed w) ≡ widened p x) j (ap (λ x. has (committed x)) (sym i))
 
   narrow_back : (o : Option (Label W)) (l : Label V) → narrowed p o ≡ some l → o ≡ some (widened p l)
-  narrow_back none l e = absurd (apart (cc))
+  narrow_back none l e = cc
   narrow_back (some missing) l e = let j : missing ≡ l = cc in subst (λ x. some missing ≡ some (widened p x)) j refl
   narrow_back (some blank) l e = let j : blank ≡ l = cc in subst (λ x. some blank ≡ some (widened p x)) j refl
   narrow_back (some rebuilding) l e = let j : rebuilding ≡ l = cc in subst (λ x. some rebuilding ≡ some (widened p x)) j refl
@@ -38,10 +35,10 @@ module _ {V W : Type 0} {p : Part V W} (h : LawfulPart p) where
 
   wide_missing : (l : Label V) → widened p l ≡ missing → l ≡ missing
   wide_missing missing e = refl
-  wide_missing blank e = absurd (apart (cc))
-  wide_missing rebuilding e = absurd (apart (cc))
-  wide_missing (has empty) e = absurd (apart (cc))
-  wide_missing (has (committed v)) e = absurd (apart (cc))
+  wide_missing blank e = cc
+  wide_missing rebuilding e = cc
+  wide_missing (has empty) e = cc
+  wide_missing (has (committed v)) e = cc
 
 pub restricted_lawful : (K : Codec) (V : Type 0) (first : V) (p : Part V K.V) → Lawful K → LawfulPart p → Lawful (restricted K V first p)
 restricted_lawful K V first p k h =
@@ -97,7 +94,7 @@ times_lawful = record { there = there; back = back }
         go true h e =
             let i : time_of (number 0 w.bytes) ≡ t = cc in
             same_block (times.into t) w (ap (λ x. payload_of x.ms) (sym i) ∙ sym ((bytes_eq-Decides _ _).0 h))
-        go false h e = absurd (apart (cc))
+        go false h e = cc
 
 pub timed_lawful : Lawful timed
 timed_lawful = restricted_lawful labels Time (time_of 0) times labels_lawful times_lawful

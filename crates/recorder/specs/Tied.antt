@@ -2,7 +2,7 @@
 -- Assumes nothing.
 use Rattle.std.specs.Prelude.{◌≡◌, ℕ, suc, Bool, true, false, cond, not, List, [], ◌∷◌, map, length, slice_index_or, Option, None, Some, unwrap_or}
 use Rattle.std.proofs.Math.Path.{refl, subst⁻¹}
-use Rattle.std.proofs.Common.{◌∙◌, ap, subst, inl, inr, arith}
+use Rattle.std.proofs.Common.{◌∙◌, ap, subst, inl, inr}
 use Rattle.std.proofs.Math.Option as math
 use Rattle.std.proofs.Math.Option.{none, some}
 use Rattle.drives.specs.Drives.{put, Io, answer, write, then'}
@@ -71,7 +71,7 @@ bytes_are : (m : root.Record Time) → label_bytes (record_as m) ≡ timed.encod
 bytes_are m = ap (λ x. timed.encode (root.has x)) (again_is m)
 
 record_long : (m : root.Record Time) → length (timed.encode (root.has m)) ≡ 512
-record_long m = elim (timed_lawful.whole (root.has m)) [ inl e ↦ absurd (let z : ◌≡◌ {A = ℕ} 0 1 = cc in omega arith) | inr e ↦ e ]
+record_long m = elim (timed_lawful.whole (root.has m)) [ inl e ↦ cc | inr e ↦ e ]
 
 -- LOOPS
 
