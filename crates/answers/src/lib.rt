@@ -9,7 +9,7 @@ ghost use Rattle.lines.specs.Replies.{answer_in, entry, entry_in, got_in, list_i
 ghost use Rattle.answers.specs.Says.{entry_read, fits, said, saying, says, shows};
 
 use fills::{Field, append, write_line};
-use lines::fields::{content_in, name_in, u8_in, u16_in, u32_in, u64_in};
+use lines::fields::{content_in, ended, name_in, number_in};
 use lines::order::Refusal;
 
 // A key in a list, the number of its version, and how long that is.
@@ -44,8 +44,8 @@ pub fn next_entry(entries: &[u8]) -> Option<(Entry<'_>, &[u8])>
     ensures { entry_read result ≡ entry_in entries.now }
 {
     let (key, rest) = name_in(entries)?;
-    let (number, rest) = u64_in(rest)?;
-    let (length, rest) = u64_in(rest)?;
+    let (number, rest) = number_in(rest)?;
+    let (length, rest) = number_in(rest)?;
     Some((
         Entry {
             key,
@@ -86,29 +86,19 @@ fn are_entries(count: u16, entries: &[u8]) -> bool
     left.is_empty()
 }
 
-fn ended<'a>(rest: &[u8], answer: Answer<'a>) -> Option<Answer<'a>>
-    ensures { saying result ≡ at_end rest.now (says answer.entry) }
-{
-    if rest.is_empty() { Some(answer) } else { None }
-}
-
 fn no(fields: &[u8]) -> Option<Answer<'_>>
     ensures { saying result ≡ no_in fields.now }
 {
-    let (number, rest) = u8_in(fields)?;
+    let (number, rest) = number_in(fields)?;
     let refusal = Refusal::of(number)?;
-    if rest.is_empty() {
-        Some(Answer::No(refusal))
-    } else {
-        None
-    }
+    ended(rest, Answer::No(refusal))
 }
 
 fn got(fields: &[u8]) -> Option<Answer<'_>>
     ensures { saying result ≡ got_in fields.now }
 {
-    let (number, rest) = u64_in(fields)?;
-    let (length, rest) = u64_in(rest)?;
+    let (number, rest) = number_in(fields)?;
+    let (length, rest) = number_in(rest)?;
     let (bytes, rest) = content_in(rest)?;
     ended(
         rest,
@@ -123,7 +113,7 @@ fn got(fields: &[u8]) -> Option<Answer<'_>>
 fn list(fields: &[u8]) -> Option<Answer<'_>>
     ensures { saying result ≡ list_in fields.now }
 {
-    let (count, entries) = u16_in(fields)?;
+    let (count, entries) = number_in(fields)?;
     if !are_entries(count, entries) {
         return None;
     }
@@ -133,12 +123,8 @@ fn list(fields: &[u8]) -> Option<Answer<'_>>
 fn number(fields: &[u8]) -> Option<Answer<'_>>
     ensures { saying result ≡ num_in fields.now }
 {
-    let (number, rest) = u64_in(fields)?;
-    if rest.is_empty() {
-        Some(Answer::Number(number))
-    } else {
-        None
-    }
+    let (number, rest) = number_in(fields)?;
+    ended(rest, Answer::Number(number))
 }
 
 fn answer_of(kind: u8, fields: &[u8]) -> Option<Answer<'_>>
@@ -146,11 +132,11 @@ fn answer_of(kind: u8, fields: &[u8]) -> Option<Answer<'_>>
 {
     match kind {
         0 => no(fields),
-        1 if fields.is_empty() => Some(Answer::Yes),
+        1 => ended(fields, Answer::Yes),
         2 => number(fields),
         3 => got(fields),
         4 => list(fields),
-        5 if fields.is_empty() => Some(Answer::Full),
+        5 => ended(fields, Answer::Full),
         _ => None,
     }
 }
@@ -158,8 +144,8 @@ fn answer_of(kind: u8, fields: &[u8]) -> Option<Answer<'_>>
 fn tagged_in(bytes: &[u8]) -> Option<(u32, Answer<'_>)>
     ensures { said result ≡ tagged_in bytes.now }
 {
-    let (tag, rest) = u32_in(bytes)?;
-    let (kind, fields) = u8_in(rest)?;
+    let (tag, rest) = number_in(bytes)?;
+    let (kind, fields) = number_in::<u8>(rest)?;
     let answer = answer_of(kind, fields)?;
     Some((tag, answer))
 }
@@ -168,7 +154,7 @@ fn tagged_in(bytes: &[u8]) -> Option<(u32, Answer<'_>)>
 pub fn read_answer(line: &[u8]) -> Option<(u32, Answer<'_>)>
     ensures { said result ≡ answer_in line.now }
 {
-    let (length, rest) = u32_in(line)?;
+    let (length, rest) = number_in::<u32>(line)?;
     if length as usize != rest.len() {
         return None;
     }

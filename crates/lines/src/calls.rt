@@ -5,7 +5,7 @@ ghost use Rattle.lines.specs.Fields.{number_read};
 ghost use Rattle.lines.specs.Fits.{Bytes};
 ghost use Rattle.lines.specs.Means.{expected_read, meant, means, rule_read};
 
-use crate::fields::{content_in, name_in, u8_in, u16_in, u32_in, u64_in};
+use crate::fields::{content_in, ended, name_in, number_in};
 
 // Which version a write expects to find.
 #[derive(Clone, Copy)]
@@ -99,29 +99,23 @@ pub enum Call<'a> {
 fn expected_in(bytes: &[u8]) -> Option<(Expected, &[u8])>
     ensures { expected_read result ≡ expected_in bytes.now }
 {
-    let (kind, rest) = u8_in(bytes)?;
+    let (kind, rest) = number_in::<u8>(bytes)?;
     match kind {
         0 => Some((Expected::Any, rest)),
         1 => Some((Expected::Absent, rest)),
         2 => {
-            let (number, rest) = u64_in(rest)?;
+            let (number, rest) = number_in(rest)?;
             Some((Expected::Is(number), rest))
         }
         _ => None,
     }
 }
 
-fn ended<'a>(rest: &[u8], call: Call<'a>) -> Option<Call<'a>>
-    ensures { meant result ≡ at_end rest.now (means call.entry) }
-{
-    if rest.is_empty() { Some(call) } else { None }
-}
-
 fn make_room(fields: &[u8]) -> Option<Call<'_>>
     ensures { meant result ≡ make_room_in fields.now }
 {
     let (name, rest) = name_in(fields)?;
-    let (keeps, rest) = u8_in(rest)?;
+    let (keeps, rest) = number_in::<u8>(rest)?;
     match keeps {
         0 => ended(rest, Call::MakeRoom { name, keeps: false }),
         1 => ended(rest, Call::MakeRoom { name, keeps: true }),
@@ -159,9 +153,9 @@ fn get(fields: &[u8]) -> Option<Call<'_>>
 {
     let (room, rest) = name_in(fields)?;
     let (key, rest) = name_in(rest)?;
-    let (number, rest) = u64_in(rest)?;
-    let (from, rest) = u64_in(rest)?;
-    let (most, rest) = u32_in(rest)?;
+    let (number, rest) = number_in(rest)?;
+    let (from, rest) = number_in(rest)?;
+    let (most, rest) = number_in(rest)?;
     ended(
         rest,
         Call::Get {
@@ -179,7 +173,7 @@ fn remove(fields: &[u8]) -> Option<Call<'_>>
 {
     let (room, rest) = name_in(fields)?;
     let (key, rest) = name_in(rest)?;
-    let (number, rest) = u64_in(rest)?;
+    let (number, rest) = number_in(rest)?;
     ended(rest, Call::Remove { room, key, number })
 }
 
@@ -189,7 +183,7 @@ fn look(fields: &[u8]) -> Option<Call<'_>>
     let (room, rest) = name_in(fields)?;
     let (beginning, rest) = name_in(rest)?;
     let (after, rest) = name_in(rest)?;
-    let (most, rest) = u16_in(rest)?;
+    let (most, rest) = number_in(rest)?;
     ended(
         rest,
         Call::Look {
@@ -221,8 +215,8 @@ fn part(fields: &[u8]) -> Option<Call<'_>>
     ensures { meant result ≡ part_in fields.now }
 {
     let (room, rest) = name_in(fields)?;
-    let (upload, rest) = u64_in(rest)?;
-    let (place, rest) = u16_in(rest)?;
+    let (upload, rest) = number_in(rest)?;
+    let (place, rest) = number_in(rest)?;
     let (bytes, rest) = content_in(rest)?;
     ended(
         rest,
@@ -239,7 +233,7 @@ fn complete(fields: &[u8]) -> Option<Call<'_>>
     ensures { meant result ≡ complete_in fields.now }
 {
     let (room, rest) = name_in(fields)?;
-    let (upload, rest) = u64_in(rest)?;
+    let (upload, rest) = number_in(rest)?;
     let (expected, rest) = expected_in(rest)?;
     ended(
         rest,
@@ -255,7 +249,7 @@ fn abort(fields: &[u8]) -> Option<Call<'_>>
     ensures { meant result ≡ abort_in fields.now }
 {
     let (room, rest) = name_in(fields)?;
-    let (upload, rest) = u64_in(rest)?;
+    let (upload, rest) = number_in(rest)?;
     ended(rest, Call::Abort { room, upload })
 }
 
@@ -264,8 +258,8 @@ fn hold(fields: &[u8]) -> Option<Call<'_>>
 {
     let (room, rest) = name_in(fields)?;
     let (key, rest) = name_in(rest)?;
-    let (number, rest) = u64_in(rest)?;
-    let (until, rest) = u64_in(rest)?;
+    let (number, rest) = number_in(rest)?;
+    let (until, rest) = number_in(rest)?;
     ended(
         rest,
         Call::Hold {
@@ -282,8 +276,8 @@ pub fn next_rule(rules: &[u8]) -> Option<(Rule<'_>, &[u8])>
     ensures { rule_read result ≡ rule_in rules.now }
 {
     let (beginning, rest) = name_in(rules)?;
-    let (lasts, rest) = u64_in(rest)?;
-    let (older_last, rest) = u64_in(rest)?;
+    let (lasts, rest) = number_in(rest)?;
+    let (older_last, rest) = number_in(rest)?;
     Some((
         Rule {
             beginning,
@@ -313,7 +307,7 @@ fn rules(fields: &[u8]) -> Option<Call<'_>>
     ensures { meant result ≡ rules_in fields.now }
 {
     let (room, rest) = name_in(fields)?;
-    let (count, rules) = u8_in(rest)?;
+    let (count, rules) = number_in(rest)?;
     if !are_rules(count, rules) {
         return None;
     }
@@ -323,7 +317,7 @@ fn rules(fields: &[u8]) -> Option<Call<'_>>
 fn time(fields: &[u8]) -> Option<Call<'_>>
     ensures { meant result ≡ time_in fields.now }
 {
-    let (ms, rest) = u64_in(fields)?;
+    let (ms, rest) = number_in(fields)?;
     ended(rest, Call::Time { ms })
 }
 
@@ -331,12 +325,12 @@ fn time(fields: &[u8]) -> Option<Call<'_>>
 fn body_in(line: &[u8]) -> Option<(u8, &[u8])>
     ensures { number_read result ≡ body_in line.now }
 {
-    let (length, rest) = u32_in(line)?;
+    let (length, rest) = number_in::<u32>(line)?;
     if length as usize != rest.len() {
         return None;
     }
-    let (_tag, rest) = u32_in(rest)?;
-    u8_in(rest)
+    let (_tag, rest) = number_in::<u32>(rest)?;
+    number_in::<u8>(rest)
 }
 
 // The call, if the line is one to the last byte.

@@ -8,7 +8,7 @@ ghost use Rattle.lines.specs.Order.{call_within, heard, kind_of, lacks_call, lac
 ghost use Rattle.lines.specs.Turns.{built_by, number_of, taken};
 
 use crate::calls::{Call, read_call};
-use crate::fields::u32_in;
+use crate::fields::number_in;
 
 #[derive(Clone, Copy, PartialEq, Eq)]
 pub enum Refusal {
@@ -123,19 +123,16 @@ fn lacks_call(built: Built, call: Option<Call<'_>>) -> bool
 pub fn tag_of(line: &[u8]) -> u32
     ensures { result ≡ tag_of line.now }
 {
-    if line.len() < 8 {
+    let Some(rest) = line.get(4..) else {
         return 0;
-    }
-    match u32_in(&line[4..]) {
-        Some((tag, _)) => tag,
-        None => 0,
-    }
+    };
+    number_in(rest).map_or(0, |(tag, _)| tag)
 }
 
 pub fn kind_of(line: &[u8]) -> Option<u8>
     ensures { result ≡ kind_of line.now }
 {
-    if line.len() < 9 { None } else { Some(line[8]) }
+    line.get(8).copied()
 }
 
 fn read_within(longest: usize, line: &[u8]) -> Option<Call<'_>>
