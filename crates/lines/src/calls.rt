@@ -1,11 +1,13 @@
 // A call on a line. Its names, keys and bytes are parts of the line: nothing is copied.
 ghost use Rattle.std.specs.Prelude.{◌≡◌, true, false, cond, Some, None};
-ghost use Rattle.lines.specs.Calls.{abort_in, are_many, at_end, begin_in, body_in, call_in, complete_in, drop_room_in, expected_in, get_in, hold_in, look_in, make_room_in, part_in, put_in, remove_in, rule_in, rules_in, time_in, versions_in};
+ghost use Rattle.meaning.specs.Rooms as meaning;
+ghost use Rattle.lines.specs.Calls.{abort_in, at_end, begin_in, body_in, call_in, complete_in, drop_room_in, expected_in, get_in, hold_in, look_in, make_room_in, part_in, put_in, remove_in, rule_in, rules_in, time_in, versions_in};
 ghost use Rattle.lines.specs.Fields.{number_read};
-ghost use Rattle.lines.specs.Fits.{Bytes};
-ghost use Rattle.lines.specs.Means.{expected_read, meant, means, rule_read};
+ghost use Rattle.lines.specs.Means.{expected_read, meant, means, ruled};
 
 use crate::fields::{content_in, ended, name_in, number_in};
+use crate::items::{Item, are_many};
+use crate::kinds::Kind;
 
 // Which version a write expects to find.
 #[derive(Clone, Copy)]
@@ -85,7 +87,7 @@ pub enum Call<'a> {
         number: u64,
         until: u64,
     },
-    // The rules as they stand on the line: next_rule takes them off one by one.
+    // The rules as they stand on the line: Rule::first takes them off one by one.
     Rules {
         room: &'a [u8],
         count: u8,
@@ -271,36 +273,26 @@ fn hold(fields: &[u8]) -> Option<Call<'_>>
     )
 }
 
-// The first rule, and the bytes after it.
-pub fn next_rule(rules: &[u8]) -> Option<(Rule<'_>, &[u8])>
-    ensures { rule_read result ≡ rule_in rules.now }
-{
-    let (beginning, rest) = name_in(rules)?;
-    let (lasts, rest) = number_in(rest)?;
-    let (older_last, rest) = number_in(rest)?;
-    Some((
-        Rule {
-            beginning,
-            lasts,
-            older_last,
-        },
-        rest,
-    ))
-}
+impl<'a> Item<'a> for Rule<'a> {
+    ghost Meant = { meaning.Rule };
 
-// Are these so many rules, and nothing else?
-pub fn are_rules(count: u8, rules: &[u8]) -> bool
-    ensures are { result ≡ are_many rule_in count rules.now }
-    ensures bytes { Bytes rules.now }
-{
-    let mut left = rules;
-    for _ in 0..count {
-        let Some((_, rest)) = next_rule(left) else {
-            return false;
-        };
-        left = rest;
+    ghost means = { ruled };
+
+    ghost reads = { rule_in };
+
+    fn first(rules: &'a [u8]) -> Option<(Rule<'a>, &'a [u8])> {
+        let (beginning, rest) = name_in(rules)?;
+        let (lasts, rest) = number_in(rest)?;
+        let (older_last, rest) = number_in(rest)?;
+        Some((
+            Rule {
+                beginning,
+                lasts,
+                older_last,
+            },
+            rest,
+        ))
     }
-    left.is_empty()
 }
 
 fn rules(fields: &[u8]) -> Option<Call<'_>>
@@ -308,10 +300,7 @@ fn rules(fields: &[u8]) -> Option<Call<'_>>
 {
     let (room, rest) = name_in(fields)?;
     let (count, rules) = number_in(rest)?;
-    if !are_rules(count, rules) {
-        return None;
-    }
-    Some(Call::Rules { room, count, rules })
+    are_many::<Rule<'_>>(u16::from(count), rules).then_some(Call::Rules { room, count, rules })
 }
 
 fn time(fields: &[u8]) -> Option<Call<'_>>
@@ -338,21 +327,20 @@ pub fn read_call(line: &[u8]) -> Option<Call<'_>>
     ensures { meant result ≡ call_in line.now }
 {
     let (kind, fields) = body_in(line)?;
-    match kind {
-        1 => make_room(fields),
-        2 => drop_room(fields),
-        3 => put(fields),
-        4 => get(fields),
-        5 => remove(fields),
-        6 => look(fields),
-        7 => versions(fields),
-        8 => begin(fields),
-        9 => part(fields),
-        10 => complete(fields),
-        11 => abort(fields),
-        12 => hold(fields),
-        13 => rules(fields),
-        14 => time(fields),
-        _ => None,
+    match Kind::try_from(kind).ok()? {
+        Kind::MakeRoom => make_room(fields),
+        Kind::DropRoom => drop_room(fields),
+        Kind::Put => put(fields),
+        Kind::Get => get(fields),
+        Kind::Remove => remove(fields),
+        Kind::Look => look(fields),
+        Kind::Versions => versions(fields),
+        Kind::Begin => begin(fields),
+        Kind::Part => part(fields),
+        Kind::Complete => complete(fields),
+        Kind::Abort => abort(fields),
+        Kind::Hold => hold(fields),
+        Kind::Rules => rules(fields),
+        Kind::Time => time(fields),
     }
 }
