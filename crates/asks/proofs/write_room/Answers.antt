@@ -12,7 +12,7 @@ pub returns-in-DropRoom : goal.returns-in-DropRoom
 returns-in-DropRoom c =
     as_kind _ c.args.call _ _ _ _ (ap of_room c.in-DropRoom.is) (wrote_as _ c.args.call _ _ _ _ _ (drop_room_is c.in-DropRoom.name) c.in-DropRoom.is c.write_line-in-DropRoom.ensures)
 
-pub returns-else-not-are_rules : goal.returns-else-not-are_rules
-returns-else-not-are_rules c =
-    let are : are_many rule_in c.in-Rules.count c.in-Rules.rules.now ≡ true = sym c.are_rules.ensures.are ∙ c.if-not-are_rules.false in
-    as_kind _ c.args.call _ _ _ _ (ap of_room c.in-Rules.is) (wrote_as _ c.args.call _ _ _ _ _ (rules_is c.in-Rules.room c.in-Rules.count c.in-Rules.rules c.are_rules.ensures.bytes are) c.in-Rules.is c.write_line-in-Rules.ensures)
+pub returns-else-not-are_many : goal.returns-else-not-are_many
+returns-else-not-are_many c =
+    let are : are_many rule_in c.in-Rules.count c.in-Rules.rules.now ≡ true = ap (λ n. are_many rule_in n c.in-Rules.rules.now) (sym c.from.ensures) ∙ sym c.are_many.ensures.are ∙ c.if-not-are_many.false in
+    as_kind _ c.args.call _ _ _ _ (ap of_room c.in-Rules.is) (wrote_as _ c.args.call _ _ _ _ _ (rules_is c.in-Rules.room c.in-Rules.count c.in-Rules.rules c.are_many.ensures.bytes are) c.in-Rules.is c.write_line-in-Rules.ensures)
