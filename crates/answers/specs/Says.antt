@@ -15,9 +15,6 @@ use Rattle.answers.specs.declared.Answer.TheVariants.{No, Yes, Number, Got, List
 abbrev pub shows : Entry → meaning.Shown
 shows x = record { key = x.key.now; num = x.number; size = x.length }
 
-abbrev pub entry_read : Option (Entry × Bor (List ℕ)) → Option (Took meaning.Shown)
-entry_read o = option_map (λ p. record { value = shows p.0; rest = p.1.now }) o
-
 abbrev pub says : Answer → meaning.Reply
 says (No e) = meaning.No (number_of e)
 says Yes = meaning.Yes

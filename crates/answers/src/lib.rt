@@ -7,12 +7,12 @@ ghost use Rattle.meaning.specs.Rooms.{Shown};
 ghost use Rattle.lines.specs.Calls.{line_of};
 ghost use Rattle.lines.specs.Kinds.{Decodes};
 ghost use Rattle.lines.specs.Fits.{is_name};
-ghost use Rattle.lines.specs.Replies.{answer_in, entry, entry_in, got_in, list_in, no_in, num_in, reply_bytes, reply_in, tagged_in};
+ghost use Rattle.lines.specs.Replies.{answer_in, entry, entry_in, got_in, list_in, no_in, num_in, reply_bytes, reply_in};
 ghost use Rattle.answers.specs.Kinds.{code_of};
 ghost use Rattle.answers.specs.Says.{fits, said, saying, says, shows};
 
 use fills::{Field, append, write_line};
-use lines::fields::{content_in, ended, name_in, number_in};
+use lines::fields::{content_in, ended, head_in, name_in, number_in};
 use lines::items::{Item, are_many};
 use lines::kinds::Unknown;
 use lines::order::Refusal;
@@ -169,24 +169,13 @@ fn answer_of(kind: u8, fields: &[u8]) -> Option<Answer<'_>>
     }
 }
 
-fn tagged_in(bytes: &[u8]) -> Option<(u32, Answer<'_>)>
-    ensures { said result ≡ tagged_in bytes.now }
-{
-    let (tag, rest) = number_in(bytes)?;
-    let (kind, fields) = number_in::<u8>(rest)?;
-    let answer = answer_of(kind, fields)?;
-    Some((tag, answer))
-}
-
 // The tag and the answer, if the line is one to the last byte.
 pub fn read_answer(line: &[u8]) -> Option<(u32, Answer<'_>)>
     ensures { said result ≡ answer_in line.now }
 {
-    let (length, rest) = number_in::<u32>(line)?;
-    if length as usize != rest.len() {
-        return None;
-    }
-    tagged_in(rest)
+    let (head, fields) = head_in(line)?;
+    let answer = answer_of(head.kind, fields)?;
+    Some((head.tag, answer))
 }
 
 // Writes the answer to the front of `out` and says how long its line is, or leaves `out` alone: where there is

@@ -6,10 +6,12 @@ use Rattle.std.specs.Option.{option_map}
 use Rattle.meaning.specs.Rooms as meaning
 use Rattle.meaning.specs.Rooms.{Expect}
 use Rattle.lines.specs.Fields.{Took}
+use Rattle.lines.specs.Calls as calls
 use Rattle.lines.specs.Calls.{rule_in, all_in}
 use Rattle.lines.specs.declared.calls.Expected.{Expected}
 use Rattle.lines.specs.declared.calls.Expected.TheVariants.{Any, Absent, Is}
 use Rattle.lines.specs.declared.calls.Rule.{Rule}
+use Rattle.lines.specs.declared.fields.Head.{Head}
 use Rattle.lines.specs.declared.calls.Call.{Call}
 use Rattle.lines.specs.declared.calls.Call.TheVariants.{MakeRoom, DropRoom, Put, Get, Remove, Look, Versions, Begin, Part, Complete, Abort, Hold, Rules, Time}
 
@@ -21,11 +23,11 @@ expects (Is n) = meaning.Is n
 abbrev pub expected_read : Option (Expected × Bor (List ℕ)) → Option (Took Expect)
 expected_read o = option_map (λ p. record { value = expects p.0; rest = p.1.now }) o
 
+abbrev pub head_read : Option (Head × Bor (List ℕ)) → Option (Took calls.Head)
+head_read o = option_map (λ p. record { value = record { tag = p.0.tag; kind = p.0.kind }; rest = p.1.now }) o
+
 abbrev pub ruled : Rule → meaning.Rule
 ruled x = record { prefix = x.beginning.now; lasts = x.lasts; old_lasts = x.older_last }
-
-abbrev pub rule_read : Option (Rule × Bor (List ℕ)) → Option (Took meaning.Rule)
-rule_read o = option_map (λ p. record { value = ruled p.0; rest = p.1.now }) o
 
 abbrev pub means : Call → meaning.Call
 means (MakeRoom n k) = meaning.MakeRoom n.now k

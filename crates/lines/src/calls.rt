@@ -1,11 +1,10 @@
 // A call on a line. Its names, keys and bytes are parts of the line: nothing is copied.
 ghost use Rattle.std.specs.Prelude.{◌≡◌, true, false, cond, Some, None};
 ghost use Rattle.meaning.specs.Rooms as meaning;
-ghost use Rattle.lines.specs.Calls.{abort_in, at_end, begin_in, body_in, call_in, complete_in, drop_room_in, expected_in, get_in, hold_in, look_in, make_room_in, part_in, put_in, remove_in, rule_in, rules_in, time_in, versions_in};
-ghost use Rattle.lines.specs.Fields.{number_read};
+ghost use Rattle.lines.specs.Calls.{abort_in, at_end, begin_in, call_in, complete_in, drop_room_in, expected_in, get_in, hold_in, look_in, make_room_in, part_in, put_in, remove_in, rule_in, rules_in, time_in, versions_in};
 ghost use Rattle.lines.specs.Means.{expected_read, meant, means, ruled};
 
-use crate::fields::{content_in, ended, name_in, number_in};
+use crate::fields::{content_in, ended, head_in, name_in, number_in};
 use crate::items::{Item, are_many};
 use crate::kinds::Kind;
 
@@ -113,6 +112,7 @@ fn expected_in(bytes: &[u8]) -> Option<(Expected, &[u8])>
     }
 }
 
+// A reader for each kind names its fields in the order of docs/MEANING.md; shared parts would only hide that order.
 fn make_room(fields: &[u8]) -> Option<Call<'_>>
     ensures { meant result ≡ make_room_in fields.now }
 {
@@ -310,24 +310,12 @@ fn time(fields: &[u8]) -> Option<Call<'_>>
     ended(rest, Call::Time { ms })
 }
 
-// The kind of a call and its fields, of a line whose length is right.
-fn body_in(line: &[u8]) -> Option<(u8, &[u8])>
-    ensures { number_read result ≡ body_in line.now }
-{
-    let (length, rest) = number_in::<u32>(line)?;
-    if length as usize != rest.len() {
-        return None;
-    }
-    let (_tag, rest) = number_in::<u32>(rest)?;
-    number_in::<u8>(rest)
-}
-
 // The call, if the line is one to the last byte.
 pub fn read_call(line: &[u8]) -> Option<Call<'_>>
     ensures { meant result ≡ call_in line.now }
 {
-    let (kind, fields) = body_in(line)?;
-    match Kind::try_from(kind).ok()? {
+    let (head, fields) = head_in(line)?;
+    match Kind::try_from(head.kind).ok()? {
         Kind::MakeRoom => make_room(fields),
         Kind::DropRoom => drop_room(fields),
         Kind::Put => put(fields),

@@ -1,7 +1,8 @@
 // The fields of a line: each is read off the front, and the bytes after it are handed on.
 ghost use Rattle.std.specs.Prelude.{◌≡◌, ℕ, length};
 ghost use Rattle.std.specs.Option.{option_map};
-ghost use Rattle.lines.specs.Calls.{at_end};
+ghost use Rattle.lines.specs.Calls.{at_end, head_in};
+ghost use Rattle.lines.specs.Means.{head_read};
 ghost use Rattle.lines.specs.Fields.{bytes_read, counted_in, number_in, value};
 
 // A number that has WIDTH bytes on a line, high byte first.
@@ -120,4 +121,24 @@ pub fn ended<T: Drop>(rest: &[u8], value: T) -> Option<T>
     ensures { result ≡ at_end rest.now value }
 {
     rest.is_empty().then_some(value)
+}
+
+// What a line begins with, behind its length.
+#[derive(Clone, Copy)]
+pub struct Head {
+    pub tag: u32,
+    pub kind: u8,
+}
+
+// The tag and the kind, of a line whose length is right, and the bytes after them.
+pub fn head_in(line: &[u8]) -> Option<(Head, &[u8])>
+    ensures { head_read result ≡ head_in line.now }
+{
+    let (length, rest) = number_in::<u32>(line)?;
+    if length as usize != rest.len() {
+        return None;
+    }
+    let (tag, rest) = number_in(rest)?;
+    let (kind, rest) = number_in(rest)?;
+    Some((Head { tag, kind }, rest))
 }

@@ -96,6 +96,7 @@ fn lacks_kind(built: Built, kind: Option<Kind>) -> bool
 }
 
 // A call of the core: whole objects, no older versions.
+#[tactic(auto, unfolding(meaning::specs::Does::core))]
 fn in_core(call: Call<'_>) -> bool
     ensures { result ≡ core (means call.entry) }
 {
@@ -110,6 +111,7 @@ fn in_core(call: Call<'_>) -> bool
     }
 }
 
+#[tactic(auto, unfolding(meaning::specs::Does::is_tick))]
 fn lacks_call(built: Built, call: Option<Call<'_>>) -> bool
     ensures { result ≡ lacks_call (built_by built) (meant call.entry) }
 {
