@@ -1,11 +1,9 @@
 -- What the code's answers say, whose bytes are parts of a line.
 -- Assumes nothing.
-use Rattle.std.specs.Prelude.{ℕ, ◌+◌, Bool, true, ◌&&◌, List, length, Option, nat_lt}
-use Rattle.std.specs.Borrow.{Bor}
+use Rattle.std.specs.Prelude.{ℕ, ◌+◌, Bool, true, ◌&&◌, length, Option, nat_lt}
 use Rattle.std.specs.Option.{option_map}
 use Rattle.meaning.specs.Rooms as meaning
 use Rattle.lines.specs.Calls.{are_many, all_in}
-use Rattle.lines.specs.Fields.{Took}
 use Rattle.lines.specs.Replies.{entry_in, reply_bytes, Tagged}
 use Rattle.lines.specs.Turns.{number_of}
 use Rattle.answers.specs.declared.Entry.{Entry}

@@ -1,11 +1,9 @@
 -- What the code's calls mean, whose names and bytes are parts of a line.
 -- Assumes nothing.
-use Rattle.std.specs.Prelude.{ℕ, List, Option}
-use Rattle.std.specs.Borrow.{Bor}
+use Rattle.std.specs.Prelude.{Option}
 use Rattle.std.specs.Option.{option_map}
 use Rattle.meaning.specs.Rooms as meaning
 use Rattle.meaning.specs.Rooms.{Expect}
-use Rattle.lines.specs.Fields.{Took}
 use Rattle.lines.specs.Calls as calls
 use Rattle.lines.specs.Calls.{rule_in, all_in}
 use Rattle.lines.specs.declared.calls.Expected.{Expected}
@@ -20,11 +18,8 @@ expects Any = meaning.Any
 expects Absent = meaning.Absent
 expects (Is n) = meaning.Is n
 
-abbrev pub expected_read : Option (Expected × Bor (List ℕ)) → Option (Took Expect)
-expected_read o = option_map (λ p. record { value = expects p.0; rest = p.1.now }) o
-
-abbrev pub head_read : Option (Head × Bor (List ℕ)) → Option (Took calls.Head)
-head_read o = option_map (λ p. record { value = record { tag = p.0.tag; kind = p.0.kind }; rest = p.1.now }) o
+abbrev pub headed : Head → calls.Head
+headed h = record { tag = h.tag; kind = h.kind }
 
 abbrev pub ruled : Rule → meaning.Rule
 ruled x = record { prefix = x.beginning.now; lasts = x.lasts; old_lasts = x.older_last }

@@ -2,7 +2,8 @@
 ghost use Rattle.std.specs.Prelude.{◌≡◌, true, false, cond, Some, None};
 ghost use Rattle.meaning.specs.Rooms as meaning;
 ghost use Rattle.lines.specs.Calls.{abort_in, at_end, begin_in, call_in, complete_in, drop_room_in, expected_in, get_in, hold_in, look_in, make_room_in, part_in, put_in, remove_in, rule_in, rules_in, time_in, versions_in};
-ghost use Rattle.lines.specs.Means.{expected_read, meant, means, ruled};
+ghost use Rattle.lines.specs.Fields.{read_as};
+ghost use Rattle.lines.specs.Means.{expects, meant, means, ruled};
 
 use crate::fields::{content_in, ended, head_in, name_in, number_in};
 use crate::items::{Item, are_many};
@@ -98,7 +99,7 @@ pub enum Call<'a> {
 }
 
 fn expected_in(bytes: &[u8]) -> Option<(Expected, &[u8])>
-    ensures { expected_read result ≡ expected_in bytes.now }
+    ensures { read_as expects result ≡ expected_in bytes.now }
 {
     let (kind, rest) = number_in::<u8>(bytes)?;
     match kind {
@@ -273,6 +274,7 @@ fn hold(fields: &[u8]) -> Option<Call<'_>>
     )
 }
 
+// An entry of a list has the same fields; a shared reader would hand out a tuple that each takes apart again.
 impl<'a> Item<'a> for Rule<'a> {
     ghost Meant = { meaning.Rule };
 

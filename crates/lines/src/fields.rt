@@ -1,9 +1,8 @@
 // The fields of a line: each is read off the front, and the bytes after it are handed on.
 ghost use Rattle.std.specs.Prelude.{◌≡◌, ℕ, length};
-ghost use Rattle.std.specs.Option.{option_map};
 ghost use Rattle.lines.specs.Calls.{at_end, head_in};
-ghost use Rattle.lines.specs.Means.{head_read};
-ghost use Rattle.lines.specs.Fields.{bytes_read, counted_in, number_in, value};
+ghost use Rattle.lines.specs.Means.{headed};
+ghost use Rattle.lines.specs.Fields.{bytes_read, counted_in, number_in, read_as, value};
 
 // A number that has WIDTH bytes on a line, high byte first.
 pub trait Number: Copy {
@@ -88,7 +87,7 @@ impl Number for u64 {
 
 #[tactic(auto, using(crate::proofs::Laws::value_take))]
 pub fn number_in<N: Number>(bytes: &[u8]) -> Option<(N, &[u8])>
-    ensures { option_map (λ p. record { value = N.amount p.0; rest = p.1.now }) result ≡ number_in N.WIDTH bytes.now }
+    ensures { read_as N.amount result ≡ number_in N.WIDTH bytes.now }
 {
     let (head, rest) = bytes.split_at_checked(N::WIDTH)?;
     Some((N::of_bytes(head), rest))
@@ -132,7 +131,7 @@ pub struct Head {
 
 // The tag and the kind, of a line whose length is right, and the bytes after them.
 pub fn head_in(line: &[u8]) -> Option<(Head, &[u8])>
-    ensures { head_read result ≡ head_in line.now }
+    ensures { read_as headed result ≡ head_in line.now }
 {
     let (length, rest) = number_in::<u32>(line)?;
     if length as usize != rest.len() {

@@ -1,8 +1,7 @@
 // What stands on a line several times over: the rules of a room, the entries of a list.
 ghost use Rattle.std.specs.Prelude.{◌≡◌, List, Option, ℕ};
-ghost use Rattle.std.specs.Option.{option_map};
 ghost use Rattle.lines.specs.Calls.{are_many};
-ghost use Rattle.lines.specs.Fields.{Took};
+ghost use Rattle.lines.specs.Fields.{Took, read_as};
 ghost use Rattle.lines.specs.Fits.{Bytes};
 
 pub trait Item<'a>: Copy {
@@ -15,7 +14,7 @@ pub trait Item<'a>: Copy {
 
     // The first item, and the bytes after it.
     fn first(bytes: &'a [u8]) -> Option<(Self, &'a [u8])>
-        ensures { option_map (λ p. record { value = means p.0; rest = p.1.now }) result ≡ reads bytes.now };
+        ensures { read_as means result ≡ reads bytes.now };
 }
 
 // Are these so many items, and nothing else?
