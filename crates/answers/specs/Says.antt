@@ -1,11 +1,9 @@
 -- What the code's answers say, whose bytes are parts of a line.
 -- Assumes nothing.
-use Rattle.std.specs.Prelude.{ℕ, ◌+◌, Bool, true, ◌&&◌, List, length, Option, nat_lt}
-use Rattle.std.specs.Borrow.{Bor}
+use Rattle.std.specs.Prelude.{ℕ, ◌+◌, Bool, true, ◌&&◌, length, Option, nat_lt}
 use Rattle.std.specs.Option.{option_map}
 use Rattle.meaning.specs.Rooms as meaning
 use Rattle.lines.specs.Calls.{are_many, all_in}
-use Rattle.lines.specs.Fields.{Took}
 use Rattle.lines.specs.Replies.{entry_in, reply_bytes, Tagged}
 use Rattle.lines.specs.Turns.{number_of}
 use Rattle.answers.specs.declared.Entry.{Entry}
@@ -14,9 +12,6 @@ use Rattle.answers.specs.declared.Answer.TheVariants.{No, Yes, Number, Got, List
 
 abbrev pub shows : Entry → meaning.Shown
 shows x = record { key = x.key.now; num = x.number; size = x.length }
-
-abbrev pub entry_read : Option (Entry × Bor (List ℕ)) → Option (Took meaning.Shown)
-entry_read o = option_map (λ p. record { value = shows p.0; rest = p.1.now }) o
 
 abbrev pub says : Answer → meaning.Reply
 says (No e) = meaning.No (number_of e)

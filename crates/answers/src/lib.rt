@@ -1,15 +1,20 @@
 // The answers on a line. Their bytes and entries are parts of a buffer: nothing is copied but to the line.
 #![tactic(auto)]
 
-ghost use Rattle.std.specs.Prelude.{◌≡◌, length, Some, None};
+ghost use Rattle.std.specs.Prelude.{◌≡◌, length, nat_le, Some, None};
 ghost use Rattle.fills.specs.Fills.{Added, Wrote};
-ghost use Rattle.lines.specs.Calls.{are_many, at_end, line_of};
-ghost use Rattle.lines.specs.Fits.{Bytes, is_name};
-ghost use Rattle.lines.specs.Replies.{answer_in, entry, entry_in, got_in, list_in, no_in, num_in, reply_bytes, reply_in, tagged_in};
-ghost use Rattle.answers.specs.Says.{entry_read, fits, said, saying, says, shows};
+ghost use Rattle.meaning.specs.Rooms.{Shown};
+ghost use Rattle.lines.specs.Calls.{line_of};
+ghost use Rattle.lines.specs.Kinds.{Decodes};
+ghost use Rattle.lines.specs.Fits.{is_name};
+ghost use Rattle.lines.specs.Replies.{answer_in, entry, entry_in, got_in, list_in, no_in, num_in, reply_bytes, reply_in};
+ghost use Rattle.answers.specs.Kinds.{code_of};
+ghost use Rattle.answers.specs.Says.{fits, said, saying, says, shows};
 
 use fills::{Field, append, write_line};
-use lines::fields::{content_in, name_in, u8_in, u16_in, u32_in, u64_in};
+use lines::fields::{content_in, ended, head_in, name_in, number_in};
+use lines::items::{Item, are_many};
+use lines::kinds::Unknown;
 use lines::order::Refusal;
 
 // A key in a list, the number of its version, and how long that is.
@@ -31,7 +36,7 @@ pub enum Answer<'a> {
         length: u64,
         bytes: &'a [u8],
     },
-    // the entries as they stand on the line: next_entry takes them off one by one
+    // the entries as they stand on the line: Entry::first takes them off one by one
     List {
         count: u16,
         entries: &'a [u8],
@@ -39,21 +44,63 @@ pub enum Answer<'a> {
     Full,
 }
 
-// The first entry, and the bytes after it.
-pub fn next_entry(entries: &[u8]) -> Option<(Entry<'_>, &[u8])>
-    ensures { entry_read result ≡ entry_in entries.now }
-{
-    let (key, rest) = name_in(entries)?;
-    let (number, rest) = u64_in(rest)?;
-    let (length, rest) = u64_in(rest)?;
-    Some((
-        Entry {
-            key,
-            number,
-            length,
-        },
-        rest,
-    ))
+impl<'a> Item<'a> for Entry<'a> {
+    ghost Meant = { Shown };
+
+    ghost means = { shows };
+
+    ghost reads = { entry_in };
+
+    fn first(entries: &'a [u8]) -> Option<(Entry<'a>, &'a [u8])> {
+        let (key, rest) = name_in(entries)?;
+        let (number, rest) = number_in(rest)?;
+        let (length, rest) = number_in(rest)?;
+        Some((
+            Entry {
+                key,
+                number,
+                length,
+            },
+            rest,
+        ))
+    }
+}
+
+// The kinds of answers, by the bytes that stand for them.
+#[derive(Clone, Copy, PartialEq, Eq)]
+pub enum Kind {
+    No = 0,
+    Yes = 1,
+    Number = 2,
+    Got = 3,
+    List = 4,
+    Full = 5,
+}
+
+impl TryFrom<u8> for Kind {
+    type Error = Unknown;
+
+    ghost try_from_gives = { Decodes code_of (λ k. nat_le k 5) };
+
+    fn try_from(code: u8) -> Result<Kind, Unknown> {
+        match code {
+            0 => Ok(Kind::No),
+            1 => Ok(Kind::Yes),
+            2 => Ok(Kind::Number),
+            3 => Ok(Kind::Got),
+            4 => Ok(Kind::List),
+            5 => Ok(Kind::Full),
+            _ => Err(Unknown(code)),
+        }
+    }
+}
+
+impl From<Kind> for u8 {
+    ghost from_gives = { λ kind code. code ≡ code_of kind };
+
+    fn from(kind: Kind) -> u8 {
+        kind as u8
+    }
 }
 
 // Writes an entry from `at` on and says where it ends, or leaves `out` alone.
@@ -71,44 +118,19 @@ pub fn put_entry(shown: Entry<'_>, at: usize, out: &mut [u8]) -> Option<usize>
     )
 }
 
-// Are these so many entries, and nothing else?
-fn are_entries(count: u16, entries: &[u8]) -> bool
-    ensures are { result ≡ are_many entry_in count entries.now }
-    ensures bytes { Bytes entries.now }
-{
-    let mut left = entries;
-    for _ in 0..count {
-        let Some((_, rest)) = next_entry(left) else {
-            return false;
-        };
-        left = rest;
-    }
-    left.is_empty()
-}
-
-fn ended<'a>(rest: &[u8], answer: Answer<'a>) -> Option<Answer<'a>>
-    ensures { saying result ≡ at_end rest.now (says answer.entry) }
-{
-    if rest.is_empty() { Some(answer) } else { None }
-}
-
 fn no(fields: &[u8]) -> Option<Answer<'_>>
     ensures { saying result ≡ no_in fields.now }
 {
-    let (number, rest) = u8_in(fields)?;
-    let refusal = Refusal::of(number)?;
-    if rest.is_empty() {
-        Some(Answer::No(refusal))
-    } else {
-        None
-    }
+    let (number, rest) = number_in::<u8>(fields)?;
+    let refusal = Refusal::try_from(number).ok()?;
+    ended(rest, Answer::No(refusal))
 }
 
 fn got(fields: &[u8]) -> Option<Answer<'_>>
     ensures { saying result ≡ got_in fields.now }
 {
-    let (number, rest) = u64_in(fields)?;
-    let (length, rest) = u64_in(rest)?;
+    let (number, rest) = number_in(fields)?;
+    let (length, rest) = number_in(rest)?;
     let (bytes, rest) = content_in(rest)?;
     ended(
         rest,
@@ -123,56 +145,37 @@ fn got(fields: &[u8]) -> Option<Answer<'_>>
 fn list(fields: &[u8]) -> Option<Answer<'_>>
     ensures { saying result ≡ list_in fields.now }
 {
-    let (count, entries) = u16_in(fields)?;
-    if !are_entries(count, entries) {
-        return None;
-    }
-    Some(Answer::List { count, entries })
+    let (count, entries) = number_in(fields)?;
+    are_many::<Entry<'_>>(count, entries).then_some(Answer::List { count, entries })
 }
 
 fn number(fields: &[u8]) -> Option<Answer<'_>>
     ensures { saying result ≡ num_in fields.now }
 {
-    let (number, rest) = u64_in(fields)?;
-    if rest.is_empty() {
-        Some(Answer::Number(number))
-    } else {
-        None
-    }
+    let (number, rest) = number_in(fields)?;
+    ended(rest, Answer::Number(number))
 }
 
 fn answer_of(kind: u8, fields: &[u8]) -> Option<Answer<'_>>
     ensures { saying result ≡ reply_in kind fields.now }
 {
-    match kind {
-        0 => no(fields),
-        1 if fields.is_empty() => Some(Answer::Yes),
-        2 => number(fields),
-        3 => got(fields),
-        4 => list(fields),
-        5 if fields.is_empty() => Some(Answer::Full),
-        _ => None,
+    match Kind::try_from(kind).ok()? {
+        Kind::No => no(fields),
+        Kind::Yes => ended(fields, Answer::Yes),
+        Kind::Number => number(fields),
+        Kind::Got => got(fields),
+        Kind::List => list(fields),
+        Kind::Full => ended(fields, Answer::Full),
     }
-}
-
-fn tagged_in(bytes: &[u8]) -> Option<(u32, Answer<'_>)>
-    ensures { said result ≡ tagged_in bytes.now }
-{
-    let (tag, rest) = u32_in(bytes)?;
-    let (kind, fields) = u8_in(rest)?;
-    let answer = answer_of(kind, fields)?;
-    Some((tag, answer))
 }
 
 // The tag and the answer, if the line is one to the last byte.
 pub fn read_answer(line: &[u8]) -> Option<(u32, Answer<'_>)>
     ensures { said result ≡ answer_in line.now }
 {
-    let (length, rest) = u32_in(line)?;
-    if length as usize != rest.len() {
-        return None;
-    }
-    tagged_in(rest)
+    let (head, fields) = head_in(line)?;
+    let answer = answer_of(head.kind, fields)?;
+    Some((head.tag, answer))
 }
 
 // Writes the answer to the front of `out` and says how long its line is, or leaves `out` alone: where there is
@@ -181,9 +184,17 @@ pub fn write_answer(tag: u32, answer: Answer<'_>, out: &mut [u8]) -> Option<usiz
     ensures { Wrote (fits answer.entry) (line_of tag (reply_bytes (says answer.entry))) out.old result out.new }
 {
     match answer {
-        Answer::No(refusal) => write_line(tag, &[Field::U8(0), Field::U8(refusal.number())], out),
-        Answer::Yes => write_line(tag, &[Field::U8(1)], out),
-        Answer::Number(number) => write_line(tag, &[Field::U8(2), Field::U64(number)], out),
+        Answer::No(refusal) => write_line(
+            tag,
+            &[Field::U8(Kind::No as u8), Field::U8(refusal.into())],
+            out,
+        ),
+        Answer::Yes => write_line(tag, &[Field::U8(Kind::Yes as u8)], out),
+        Answer::Number(number) => write_line(
+            tag,
+            &[Field::U8(Kind::Number as u8), Field::U64(number)],
+            out,
+        ),
         Answer::Got {
             number,
             length,
@@ -192,7 +203,7 @@ pub fn write_answer(tag: u32, answer: Answer<'_>, out: &mut [u8]) -> Option<usiz
             write_line(
                 tag,
                 &[
-                    Field::U8(3),
+                    Field::U8(Kind::Got as u8),
                     Field::U64(number),
                     Field::U64(length),
                     Field::Content(bytes),
@@ -201,15 +212,19 @@ pub fn write_answer(tag: u32, answer: Answer<'_>, out: &mut [u8]) -> Option<usiz
             )
         }
         Answer::List { count, entries } => {
-            if !are_entries(count, entries) {
+            if !are_many::<Entry<'_>>(count, entries) {
                 return None;
             }
             write_line(
                 tag,
-                &[Field::U8(4), Field::U16(count), Field::Plain(entries)],
+                &[
+                    Field::U8(Kind::List as u8),
+                    Field::U16(count),
+                    Field::Plain(entries),
+                ],
                 out,
             )
         }
-        Answer::Full => write_line(tag, &[Field::U8(5)], out),
+        Answer::Full => write_line(tag, &[Field::U8(Kind::Full as u8)], out),
     }
 }

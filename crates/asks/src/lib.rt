@@ -10,7 +10,9 @@ ghost use Rattle.lines.specs.Means.{means};
 
 use fills::Field::{Content, Expects, Flag, Name, Plain, U8, U16, U32, U64};
 use fills::write_line;
-use lines::calls::{Call, are_rules};
+use lines::calls::{Call, Rule};
+use lines::items::are_many;
+use lines::kinds::Kind;
 
 // One match over all fourteen calls would be longer than a function may be, so each sort of call has its own.
 
@@ -19,13 +21,21 @@ fn write_room(tag: u32, call: Call<'_>, out: &mut [u8]) -> Option<usize>
     ensures { Wrote (of_room call.entry && fits call.entry) (line_of tag (call_bytes (means call.entry))) out.old result out.new }
 {
     match call {
-        Call::MakeRoom { name, keeps } => write_line(tag, &[U8(1), Name(name), Flag(keeps)], out),
-        Call::DropRoom { name } => write_line(tag, &[U8(2), Name(name)], out),
+        Call::MakeRoom { name, keeps } => write_line(
+            tag,
+            &[U8(Kind::MakeRoom as u8), Name(name), Flag(keeps)],
+            out,
+        ),
+        Call::DropRoom { name } => write_line(tag, &[U8(Kind::DropRoom as u8), Name(name)], out),
         Call::Rules { room, count, rules } => {
-            if !are_rules(count, rules) {
+            if !are_many::<Rule<'_>>(u16::from(count), rules) {
                 return None;
             }
-            write_line(tag, &[U8(13), Name(room), U8(count), Plain(rules)], out)
+            write_line(
+                tag,
+                &[U8(Kind::Rules as u8), Name(room), U8(count), Plain(rules)],
+                out,
+            )
         }
         _ => None,
     }
@@ -43,7 +53,7 @@ fn write_change(tag: u32, call: Call<'_>, out: &mut [u8]) -> Option<usize>
             bytes,
         } => {
             let fields = [
-                U8(3),
+                U8(Kind::Put as u8),
                 Name(room),
                 Name(key),
                 Expects(expected),
@@ -52,7 +62,7 @@ fn write_change(tag: u32, call: Call<'_>, out: &mut [u8]) -> Option<usize>
             write_line(tag, &fields, out)
         }
         Call::Remove { room, key, number } => {
-            let fields = [U8(5), Name(room), Name(key), U64(number)];
+            let fields = [U8(Kind::Remove as u8), Name(room), Name(key), U64(number)];
             write_line(tag, &fields, out)
         }
         Call::Hold {
@@ -61,7 +71,13 @@ fn write_change(tag: u32, call: Call<'_>, out: &mut [u8]) -> Option<usize>
             number,
             until,
         } => {
-            let fields = [U8(12), Name(room), Name(key), U64(number), U64(until)];
+            let fields = [
+                U8(Kind::Hold as u8),
+                Name(room),
+                Name(key),
+                U64(number),
+                U64(until),
+            ];
             write_line(tag, &fields, out)
         }
         _ => None,
@@ -81,7 +97,7 @@ fn write_read(tag: u32, call: Call<'_>, out: &mut [u8]) -> Option<usize>
             most,
         } => {
             let fields = [
-                U8(4),
+                U8(Kind::Get as u8),
                 Name(room),
                 Name(key),
                 U64(number),
@@ -96,10 +112,20 @@ fn write_read(tag: u32, call: Call<'_>, out: &mut [u8]) -> Option<usize>
             after,
             most,
         } => {
-            let fields = [U8(6), Name(room), Name(beginning), Name(after), U16(most)];
+            let fields = [
+                U8(Kind::Look as u8),
+                Name(room),
+                Name(beginning),
+                Name(after),
+                U16(most),
+            ];
             write_line(tag, &fields, out)
         }
-        Call::Versions { room, key } => write_line(tag, &[U8(7), Name(room), Name(key)], out),
+        Call::Versions { room, key } => write_line(
+            tag,
+            &[U8(Kind::Versions as u8), Name(room), Name(key)],
+            out,
+        ),
         _ => None,
     }
 }
@@ -109,14 +135,24 @@ fn write_upload(tag: u32, call: Call<'_>, out: &mut [u8]) -> Option<usize>
     ensures { Wrote (uploads call.entry && fits call.entry) (line_of tag (call_bytes (means call.entry))) out.old result out.new }
 {
     match call {
-        Call::Begin { room, key } => write_line(tag, &[U8(8), Name(room), Name(key)], out),
+        Call::Begin { room, key } => write_line(
+            tag,
+            &[U8(Kind::Begin as u8), Name(room), Name(key)],
+            out,
+        ),
         Call::Part {
             room,
             upload,
             place,
             bytes,
         } => {
-            let fields = [U8(9), Name(room), U64(upload), U16(place), Content(bytes)];
+            let fields = [
+                U8(Kind::Part as u8),
+                Name(room),
+                U64(upload),
+                U16(place),
+                Content(bytes),
+            ];
             write_line(tag, &fields, out)
         }
         Call::Complete {
@@ -124,10 +160,19 @@ fn write_upload(tag: u32, call: Call<'_>, out: &mut [u8]) -> Option<usize>
             upload,
             expected,
         } => {
-            let fields = [U8(10), Name(room), U64(upload), Expects(expected)];
+            let fields = [
+                U8(Kind::Complete as u8),
+                Name(room),
+                U64(upload),
+                Expects(expected),
+            ];
             write_line(tag, &fields, out)
         }
-        Call::Abort { room, upload } => write_line(tag, &[U8(11), Name(room), U64(upload)], out),
+        Call::Abort { room, upload } => write_line(
+            tag,
+            &[U8(Kind::Abort as u8), Name(room), U64(upload)],
+            out,
+        ),
         _ => None,
     }
 }
@@ -145,7 +190,7 @@ pub fn write_call(tag: u32, call: Call<'_>, out: &mut [u8]) -> Option<usize>
         Call::Get { .. } | Call::Look { .. } | Call::Versions { .. } => write_read(tag, call, out),
         Call::Begin { .. } | Call::Part { .. } | Call::Complete { .. } | Call::Abort { .. } =>
             write_upload(tag, call, out),
-        Call::Time { ms } => write_line(tag, &[U8(14), U64(ms)], out),
+        Call::Time { ms } => write_line(tag, &[U8(Kind::Time as u8), U64(ms)], out),
     }
 }
 

@@ -121,13 +121,7 @@ impl Desk {
     ) -> Result<(), Trouble> {
         self.come_up(rt)?;
         let mut answer = [0u8; 64];
-        let n = answer_line(
-            &mut self.house,
-            &mut self.files,
-            line,
-            &mut answer,
-        )
-        .unwrap_or(0);
+        let n = answer_line(&mut self.house, &mut self.files, line, &mut answer).unwrap_or(0);
         self.stay_up(rt)?;
         write!(out, "out ")?;
         push_hex(out, &answer[0..n.min(64)])?;

@@ -2,8 +2,8 @@
 use Rattle.std.proofs.Common.{◌≡◌, ℕ, suc, ◌+◌, Bool, true, false, cond, eqb, ltb, List, ◌++◌, length, Some, None, Option, sym, refl, ap, ◌∙◌, subst, arith}
 use Rattle.std.proofs.lemmas.List.{append-nil}
 use Rattle.std.proofs.lemmas.Bool.Decides.{nat_tests}
-use Rattle.lines.specs.Fields.{◌then◌, number, number_in}
-use Rattle.lines.specs.Calls.{line_of}
+use Rattle.lines.specs.Fields.{Took, ◌then◌, number, number_in}
+use Rattle.lines.specs.Calls.{line_of, Head, head_in}
 use Rattle.lines.specs.Fits.{Bytes, NumberFits}
 use Rattle.lines.specs.Order.{tag_of}
 use Rattle.lines.proofs.Laws.{then_some, then_forth, number_laws, value_number}
@@ -68,3 +68,27 @@ line_back {B} f l b bs e =
       bytes = m.2;
       reads = ap (λ (j : ℕ). f j body) tag_as ∙ v.2;
     }
+
+-- a kind behind a tag
+abbrev kind_in : {B : Type 0} → (Head → List ℕ → Option B) → ℕ → List ℕ → Option B
+kind_in f tag l = number_in 1 l then (λ kind l. f (record { tag = tag; kind = kind }) l)
+
+abbrev head : ℕ → List ℕ → Option (Took Head)
+head tag l = kind_in (λ h l. Some (record { value = h; rest = l })) tag l
+
+-- a line is read on behind its head as behind its tag and its kind
+pub head_on : {B : Type 0} (f : Head → List ℕ → Option B) (l : List ℕ) → (head_in l then f) ≡ line_in (kind_in f) l
+head_on {B} f l = go (number_in 4 l)
+  where
+    kinds : (tag : ℕ) (o : Option (Took ℕ)) → ((o then (λ kind l. Some (record { value = record { tag = tag; kind = kind }; rest = l }))) then f) ≡ (o then (λ kind l. f (record { tag = tag; kind = kind }) l))
+    kinds tag None = refl
+    kinds tag (Some t) = refl
+
+    tested : (b : Bool) (o : Option (Took ℕ)) → (cond b (o then head) None then f) ≡ cond b (o then kind_in f) None
+    tested false o = refl
+    tested true None = refl
+    tested true (Some t) = kinds t.value (number_in 1 t.rest)
+
+    go : (o : Option (Took ℕ)) → ((o then (λ n l. cond (eqb n (length l)) (number_in 4 l then head) None)) then f) ≡ (o then (λ n l. cond (eqb n (length l)) (number_in 4 l then kind_in f) None))
+    go None = refl
+    go (Some t) = tested (eqb t.value (length t.rest)) (number_in 4 t.rest)

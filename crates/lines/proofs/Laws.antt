@@ -51,6 +51,12 @@ pub value_fits : (k : ℕ) (l : List ℕ) → Bytes l → value k l < 256 ^ k
 value_fits zero l b = omega (arith, pow-zero 256)
 value_fits (suc k) l b = rw pow-succ' (digits_lt (b 0) (value_fits k (drop 1 l) (bytes_drop 1 l b)))
 
+-- the bytes behind it don't count
+pub value_take : (k : ℕ) (l : List ℕ) → value k (take k l) ≡ value k l
+value_take zero l = refl
+value_take (suc k) [] = refl
+value_take (suc k) (x ∷ l) = ap (λ (m : ℕ). x * 256 ^ k + m) (value_take k l)
+
 number_value : (k : ℕ) (l : List ℕ) → Bytes l → k ≤ length l → l ≡ number k (value k l) ++ drop k l
 number_value zero l b h = refl
 number_value (suc k) [] b h = absurd (omega arith)

@@ -155,10 +155,17 @@ fields_in k l =
     (cond (k == 9) (part_in l) (cond (k == 10) (complete_in l) (cond (k == 11) (abort_in l) (cond (k == 12) (hold_in l)
     (cond (k == 13) (rules_in l) (cond (k == 14) (time_in l) None)))))))))))))
 
--- the kind and the bytes after it, of a line whose length is right
-abbrev pub body_in : List ℕ → Option (Took ℕ)
-body_in l = number_in 4 l then (λ n l. cond (n == length l) (number_in 4 l then (λ tag l. number_in 1 l)) None)
+-- what a line begins with, behind its length
+pub record Head : Type 0 where
+  pub tag : ℕ
+  pub kind : ℕ
+
+-- the tag and the kind, of a line whose length is right, and the bytes after them
+abbrev pub head_in : List ℕ → Option (Took Head)
+head_in l =
+    number_in 4 l then (λ n l. cond (n == length l)
+    (number_in 4 l then (λ tag l. number_in 1 l then (λ kind l. Some (record { value = record { tag = tag; kind = kind }; rest = l })))) None)
 
 -- the call, of a line that is one
 abbrev pub call_in : List ℕ → Option Call
-call_in l = body_in l then (λ kind l. fields_in kind l)
+call_in l = head_in l then (λ h l. fields_in h.kind l)

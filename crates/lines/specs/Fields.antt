@@ -40,8 +40,8 @@ abbrev pub counted_in : (k : ℕ) → List ℕ → Option (Took (List ℕ))
 counted_in k l = number_in k l then (λ n rest. bytes_in n rest)
 
 -- the same of what code read, whose bytes are parts of the line
-abbrev pub number_read : Option (ℕ × Bor (List ℕ)) → Option (Took ℕ)
-number_read o = option_map (λ p. record { value = p.0; rest = p.1.now }) o
+abbrev pub read_as : {A B : Type 0} → (A → B) → Option (A × Bor (List ℕ)) → Option (Took B)
+read_as means o = option_map (λ p. record { value = means p.0; rest = p.1.now }) o
 
 abbrev pub bytes_read : Option (Bor (List ℕ) × Bor (List ℕ)) → Option (Took (List ℕ))
-bytes_read o = option_map (λ p. record { value = p.0.now; rest = p.1.now }) o
+bytes_read o = read_as (λ bs. bs.now) o

@@ -4,4 +4,5 @@ pub mod Fits
 pub mod Replies
 pub mod Means
 pub mod Order
+pub mod Kinds
 pub mod Turns

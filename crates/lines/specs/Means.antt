@@ -1,15 +1,15 @@
 -- What the code's calls mean, whose names and bytes are parts of a line.
 -- Assumes nothing.
-use Rattle.std.specs.Prelude.{ℕ, List, Option}
-use Rattle.std.specs.Borrow.{Bor}
+use Rattle.std.specs.Prelude.{Option}
 use Rattle.std.specs.Option.{option_map}
 use Rattle.meaning.specs.Rooms as meaning
 use Rattle.meaning.specs.Rooms.{Expect}
-use Rattle.lines.specs.Fields.{Took}
+use Rattle.lines.specs.Calls as calls
 use Rattle.lines.specs.Calls.{rule_in, all_in}
 use Rattle.lines.specs.declared.calls.Expected.{Expected}
 use Rattle.lines.specs.declared.calls.Expected.TheVariants.{Any, Absent, Is}
 use Rattle.lines.specs.declared.calls.Rule.{Rule}
+use Rattle.lines.specs.declared.fields.Head.{Head}
 use Rattle.lines.specs.declared.calls.Call.{Call}
 use Rattle.lines.specs.declared.calls.Call.TheVariants.{MakeRoom, DropRoom, Put, Get, Remove, Look, Versions, Begin, Part, Complete, Abort, Hold, Rules, Time}
 
@@ -18,14 +18,11 @@ expects Any = meaning.Any
 expects Absent = meaning.Absent
 expects (Is n) = meaning.Is n
 
-abbrev pub expected_read : Option (Expected × Bor (List ℕ)) → Option (Took Expect)
-expected_read o = option_map (λ p. record { value = expects p.0; rest = p.1.now }) o
+abbrev pub headed : Head → calls.Head
+headed h = record { tag = h.tag; kind = h.kind }
 
 abbrev pub ruled : Rule → meaning.Rule
 ruled x = record { prefix = x.beginning.now; lasts = x.lasts; old_lasts = x.older_last }
-
-abbrev pub rule_read : Option (Rule × Bor (List ℕ)) → Option (Took meaning.Rule)
-rule_read o = option_map (λ p. record { value = ruled p.0; rest = p.1.now }) o
 
 abbrev pub means : Call → meaning.Call
 means (MakeRoom n k) = meaning.MakeRoom n.now k

@@ -3,7 +3,7 @@
 use Rattle.std.specs.Prelude.{◌≡◌, ℕ, ◌+◌, Bool, true, cond, ◌&&◌, ◌||◌, List, [], ◌∷◌, length, Some, None, Option, ◌==◌, nat_le}
 use Rattle.meaning.specs.Rooms.{Shown, Reply, No, Yes, Num, Got, List', Full}
 use Rattle.lines.specs.Fields.{Took, ◌then◌, number, number_in}
-use Rattle.lines.specs.Calls.{together, name, name_in, content, content_in, many, many_in, at_end}
+use Rattle.lines.specs.Calls.{together, name, name_in, content, content_in, many, many_in, at_end, head_in}
 use Rattle.lines.specs.Fits.{NumberFits, NameFits, ContentFits, Each}
 
 -- what stands in a list: a key, the number of its version, and how long that is
@@ -55,12 +55,9 @@ abbrev pub tagged : ℕ → Option Reply → Option Tagged
 tagged tag None = None
 tagged tag (Some r) = Some (record { tag = tag; reply = r })
 
-abbrev pub tagged_in : List ℕ → Option Tagged
-tagged_in l = number_in 4 l then (λ tag l. number_in 1 l then (λ kind l. tagged tag (reply_in kind l)))
-
 -- the answer and its tag, of a line that is one
 abbrev pub answer_in : List ℕ → Option Tagged
-answer_in l = number_in 4 l then (λ n l. cond (n == length l) (tagged_in l) None)
+answer_in l = head_in l then (λ h l. tagged h.tag (reply_in h.kind l))
 
 -- which answers a line can hold
 abbrev pub ShownFits : Shown → Type 0

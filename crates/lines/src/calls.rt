@@ -1,11 +1,13 @@
 // A call on a line. Its names, keys and bytes are parts of the line: nothing is copied.
 ghost use Rattle.std.specs.Prelude.{◌≡◌, true, false, cond, Some, None};
-ghost use Rattle.lines.specs.Calls.{abort_in, are_many, at_end, begin_in, body_in, call_in, complete_in, drop_room_in, expected_in, get_in, hold_in, look_in, make_room_in, part_in, put_in, remove_in, rule_in, rules_in, time_in, versions_in};
-ghost use Rattle.lines.specs.Fields.{number_read};
-ghost use Rattle.lines.specs.Fits.{Bytes};
-ghost use Rattle.lines.specs.Means.{expected_read, meant, means, rule_read};
+ghost use Rattle.meaning.specs.Rooms as meaning;
+ghost use Rattle.lines.specs.Calls.{abort_in, at_end, begin_in, call_in, complete_in, drop_room_in, expected_in, get_in, hold_in, look_in, make_room_in, part_in, put_in, remove_in, rule_in, rules_in, time_in, versions_in};
+ghost use Rattle.lines.specs.Fields.{read_as};
+ghost use Rattle.lines.specs.Means.{expects, meant, means, ruled};
 
-use crate::fields::{content_in, name_in, u8_in, u16_in, u32_in, u64_in};
+use crate::fields::{content_in, ended, head_in, name_in, number_in};
+use crate::items::{Item, are_many};
+use crate::kinds::Kind;
 
 // Which version a write expects to find.
 #[derive(Clone, Copy)]
@@ -85,7 +87,7 @@ pub enum Call<'a> {
         number: u64,
         until: u64,
     },
-    // The rules as they stand on the line: next_rule takes them off one by one.
+    // The rules as they stand on the line: Rule::first takes them off one by one.
     Rules {
         room: &'a [u8],
         count: u8,
@@ -97,31 +99,26 @@ pub enum Call<'a> {
 }
 
 fn expected_in(bytes: &[u8]) -> Option<(Expected, &[u8])>
-    ensures { expected_read result ≡ expected_in bytes.now }
+    ensures { read_as expects result ≡ expected_in bytes.now }
 {
-    let (kind, rest) = u8_in(bytes)?;
+    let (kind, rest) = number_in::<u8>(bytes)?;
     match kind {
         0 => Some((Expected::Any, rest)),
         1 => Some((Expected::Absent, rest)),
         2 => {
-            let (number, rest) = u64_in(rest)?;
+            let (number, rest) = number_in(rest)?;
             Some((Expected::Is(number), rest))
         }
         _ => None,
     }
 }
 
-fn ended<'a>(rest: &[u8], call: Call<'a>) -> Option<Call<'a>>
-    ensures { meant result ≡ at_end rest.now (means call.entry) }
-{
-    if rest.is_empty() { Some(call) } else { None }
-}
-
+// A reader for each kind names its fields in the order of docs/MEANING.md; shared parts would only hide that order.
 fn make_room(fields: &[u8]) -> Option<Call<'_>>
     ensures { meant result ≡ make_room_in fields.now }
 {
     let (name, rest) = name_in(fields)?;
-    let (keeps, rest) = u8_in(rest)?;
+    let (keeps, rest) = number_in::<u8>(rest)?;
     match keeps {
         0 => ended(rest, Call::MakeRoom { name, keeps: false }),
         1 => ended(rest, Call::MakeRoom { name, keeps: true }),
@@ -159,9 +156,9 @@ fn get(fields: &[u8]) -> Option<Call<'_>>
 {
     let (room, rest) = name_in(fields)?;
     let (key, rest) = name_in(rest)?;
-    let (number, rest) = u64_in(rest)?;
-    let (from, rest) = u64_in(rest)?;
-    let (most, rest) = u32_in(rest)?;
+    let (number, rest) = number_in(rest)?;
+    let (from, rest) = number_in(rest)?;
+    let (most, rest) = number_in(rest)?;
     ended(
         rest,
         Call::Get {
@@ -179,7 +176,7 @@ fn remove(fields: &[u8]) -> Option<Call<'_>>
 {
     let (room, rest) = name_in(fields)?;
     let (key, rest) = name_in(rest)?;
-    let (number, rest) = u64_in(rest)?;
+    let (number, rest) = number_in(rest)?;
     ended(rest, Call::Remove { room, key, number })
 }
 
@@ -189,7 +186,7 @@ fn look(fields: &[u8]) -> Option<Call<'_>>
     let (room, rest) = name_in(fields)?;
     let (beginning, rest) = name_in(rest)?;
     let (after, rest) = name_in(rest)?;
-    let (most, rest) = u16_in(rest)?;
+    let (most, rest) = number_in(rest)?;
     ended(
         rest,
         Call::Look {
@@ -221,8 +218,8 @@ fn part(fields: &[u8]) -> Option<Call<'_>>
     ensures { meant result ≡ part_in fields.now }
 {
     let (room, rest) = name_in(fields)?;
-    let (upload, rest) = u64_in(rest)?;
-    let (place, rest) = u16_in(rest)?;
+    let (upload, rest) = number_in(rest)?;
+    let (place, rest) = number_in(rest)?;
     let (bytes, rest) = content_in(rest)?;
     ended(
         rest,
@@ -239,7 +236,7 @@ fn complete(fields: &[u8]) -> Option<Call<'_>>
     ensures { meant result ≡ complete_in fields.now }
 {
     let (room, rest) = name_in(fields)?;
-    let (upload, rest) = u64_in(rest)?;
+    let (upload, rest) = number_in(rest)?;
     let (expected, rest) = expected_in(rest)?;
     ended(
         rest,
@@ -255,7 +252,7 @@ fn abort(fields: &[u8]) -> Option<Call<'_>>
     ensures { meant result ≡ abort_in fields.now }
 {
     let (room, rest) = name_in(fields)?;
-    let (upload, rest) = u64_in(rest)?;
+    let (upload, rest) = number_in(rest)?;
     ended(rest, Call::Abort { room, upload })
 }
 
@@ -264,8 +261,8 @@ fn hold(fields: &[u8]) -> Option<Call<'_>>
 {
     let (room, rest) = name_in(fields)?;
     let (key, rest) = name_in(rest)?;
-    let (number, rest) = u64_in(rest)?;
-    let (until, rest) = u64_in(rest)?;
+    let (number, rest) = number_in(rest)?;
+    let (until, rest) = number_in(rest)?;
     ended(
         rest,
         Call::Hold {
@@ -277,88 +274,63 @@ fn hold(fields: &[u8]) -> Option<Call<'_>>
     )
 }
 
-// The first rule, and the bytes after it.
-pub fn next_rule(rules: &[u8]) -> Option<(Rule<'_>, &[u8])>
-    ensures { rule_read result ≡ rule_in rules.now }
-{
-    let (beginning, rest) = name_in(rules)?;
-    let (lasts, rest) = u64_in(rest)?;
-    let (older_last, rest) = u64_in(rest)?;
-    Some((
-        Rule {
-            beginning,
-            lasts,
-            older_last,
-        },
-        rest,
-    ))
-}
+// An entry of a list has the same fields; a shared reader would hand out a tuple that each takes apart again.
+impl<'a> Item<'a> for Rule<'a> {
+    ghost Meant = { meaning.Rule };
 
-// Are these so many rules, and nothing else?
-pub fn are_rules(count: u8, rules: &[u8]) -> bool
-    ensures are { result ≡ are_many rule_in count rules.now }
-    ensures bytes { Bytes rules.now }
-{
-    let mut left = rules;
-    for _ in 0..count {
-        let Some((_, rest)) = next_rule(left) else {
-            return false;
-        };
-        left = rest;
+    ghost means = { ruled };
+
+    ghost reads = { rule_in };
+
+    fn first(rules: &'a [u8]) -> Option<(Rule<'a>, &'a [u8])> {
+        let (beginning, rest) = name_in(rules)?;
+        let (lasts, rest) = number_in(rest)?;
+        let (older_last, rest) = number_in(rest)?;
+        Some((
+            Rule {
+                beginning,
+                lasts,
+                older_last,
+            },
+            rest,
+        ))
     }
-    left.is_empty()
 }
 
 fn rules(fields: &[u8]) -> Option<Call<'_>>
     ensures { meant result ≡ rules_in fields.now }
 {
     let (room, rest) = name_in(fields)?;
-    let (count, rules) = u8_in(rest)?;
-    if !are_rules(count, rules) {
-        return None;
-    }
-    Some(Call::Rules { room, count, rules })
+    let (count, rules) = number_in(rest)?;
+    are_many::<Rule<'_>>(u16::from(count), rules).then_some(Call::Rules { room, count, rules })
 }
 
 fn time(fields: &[u8]) -> Option<Call<'_>>
     ensures { meant result ≡ time_in fields.now }
 {
-    let (ms, rest) = u64_in(fields)?;
+    let (ms, rest) = number_in(fields)?;
     ended(rest, Call::Time { ms })
-}
-
-// The kind of a call and its fields, of a line whose length is right.
-fn body_in(line: &[u8]) -> Option<(u8, &[u8])>
-    ensures { number_read result ≡ body_in line.now }
-{
-    let (length, rest) = u32_in(line)?;
-    if length as usize != rest.len() {
-        return None;
-    }
-    let (_tag, rest) = u32_in(rest)?;
-    u8_in(rest)
 }
 
 // The call, if the line is one to the last byte.
 pub fn read_call(line: &[u8]) -> Option<Call<'_>>
     ensures { meant result ≡ call_in line.now }
 {
-    let (kind, fields) = body_in(line)?;
-    match kind {
-        1 => make_room(fields),
-        2 => drop_room(fields),
-        3 => put(fields),
-        4 => get(fields),
-        5 => remove(fields),
-        6 => look(fields),
-        7 => versions(fields),
-        8 => begin(fields),
-        9 => part(fields),
-        10 => complete(fields),
-        11 => abort(fields),
-        12 => hold(fields),
-        13 => rules(fields),
-        14 => time(fields),
-        _ => None,
+    let (head, fields) = head_in(line)?;
+    match Kind::try_from(head.kind).ok()? {
+        Kind::MakeRoom => make_room(fields),
+        Kind::DropRoom => drop_room(fields),
+        Kind::Put => put(fields),
+        Kind::Get => get(fields),
+        Kind::Remove => remove(fields),
+        Kind::Look => look(fields),
+        Kind::Versions => versions(fields),
+        Kind::Begin => begin(fields),
+        Kind::Part => part(fields),
+        Kind::Complete => complete(fields),
+        Kind::Abort => abort(fields),
+        Kind::Hold => hold(fields),
+        Kind::Rules => rules(fields),
+        Kind::Time => time(fields),
     }
 }

@@ -3,4 +3,6 @@
 
 pub mod calls;
 pub mod fields;
+pub mod items;
+pub mod kinds;
 pub mod order;
