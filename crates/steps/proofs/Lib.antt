@@ -1,3 +1,4 @@
 pub mod Alike
 pub mod Mirror
 pub mod Lents
+pub mod Turns

@@ -40,6 +40,9 @@ module _ {M B : Type 0} {f : Held M → List ℕ → Stepped M} {S : Held M → 
   later {n = suc n} (Goes.again g) h = Goes.again (later g (omega arith))
 
   module _ {A : Type 0} {g : A → Io B} where
+    pub more : {x : Stepped M} {p : Io A} {m n : ℕ} → Does f S m x p g → m ≤ n → Does f S n x p g
+    more d h = record { go = later d.go h }
+
     pub answers : {n : ℕ} {x : Stepped M} {a : A} → Goes f S n x (g a) → Does f S n x (answer a) g
     unfolding then'
     answers d = record { go = d }
