@@ -27,8 +27,8 @@ pub(crate) fn doubled_byte(x: u8) -> u8
     DOUBLES[x as usize]
 }
 
-// An element of Q. A trait that both bytes and vectors have would make this and `weighted` one, but its laws can't say that a u8 is below 256, so
-// each function would ask that of its four arguments, which is no plainer.
+// An element of Q. A trait for both bytes and vectors would make this and `weighted` one. But its laws can't say that a u8 is below 256, so a struct
+// of four blocks has to keep that: eighteen functions in place of these fifteen, which is no plainer.
 #[tactic(auto, using(field::proofs::Horner::q_is))]
 pub(crate) fn weighted_byte(w: u8, x: u8, y: u8, z: u8) -> u8
     ensures { result ≡ dot (generator 5) w x y z }
