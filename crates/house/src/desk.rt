@@ -69,6 +69,7 @@ impl Desk {
         let seen = self.files.open_all(rt);
         let before = self.drives;
         self.drives.look(&seen);
+        // by number, since a drive is named by its number
         for i in 0..6 {
             let now = self.drives.state(i);
             let odd = matches!(now, Drive::Odd | Drive::Foreign | Drive::Stale);

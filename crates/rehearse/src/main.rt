@@ -8,12 +8,12 @@ use console::{Text, TextLine};
 use rehearsal::{MOST_LENT, Rehearsal};
 use simdrives::SimDrives;
 use std::fs::File;
-use std::io::{BufRead, BufReader, Write};
+use std::io::{BufRead, BufReader};
 use std::{env, io};
 
 // Each line of a script is answered before the next is read.
 fn play_on<R: BufRead>(
-    rt: &HostRuntime,
+    rt: &(impl Print + AllocGlobal),
     rehearsal: &mut Rehearsal,
     script: &mut R,
 ) -> io::Result<()> {
@@ -27,14 +27,14 @@ fn play_on<R: BufRead>(
             Text::TooLong => rehearsal.answer(b"?", &mut out)?,
             Text::Line => rehearsal.answer(text.text(), &mut out)?,
         }
-        rt.stdout().write_all(&out)?;
+        rt.write_all(&out)?;
         rehearsal.check_memory()?;
     }
     Ok(())
 }
 
 // Plays a script on fresh drives.
-fn play<R: BufRead>(rt: &HostRuntime, script: &mut R) -> io::Result<()> {
+fn play<R: BufRead>(rt: &(impl Print + AllocGlobal), script: &mut R) -> io::Result<()> {
     let heap = rt.alloc();
     let line = vec![in heap; 0u8; MOST_LENT + 1]?;
     let answer = vec![in heap; 0u8; MOST_LENT + 1]?;
