@@ -18,18 +18,16 @@ const HELP: &str = "help: in HEX (a line of bytes) | time MS | mend (one stretch
 fn answer(
     rt: &HostRuntime,
     desk: &mut Desk,
-    read: Text,
-    text: &TextLine,
+    read: Text<'_>,
     line: &mut [u8],
     out: &mut Vec<u8>,
 ) -> io::Result<()> {
-    let input = match read {
-        Text::Line => understand(text.text(), line),
-        _ => Input::Line(0),
+    let Text::Line(text) = read else {
+        return desk.call(rt, b"", out);
     };
-    match input {
+    match understand(text, line) {
         Input::Nothing => Ok(()),
-        Input::Line(n) => desk.call(rt, &line[0..n.min(line.len())], out),
+        Input::Line(n) => desk.call(rt, &line[..n], out),
         Input::Tells(ms) => desk.tell(rt, ms, out),
         Input::Mends => desk.mend(rt, out),
         Input::Asks => desk.status(rt, out),
@@ -50,7 +48,7 @@ fn main(rt: HostRuntime) -> io::Result<()> {
             break;
         }
         out.clear();
-        answer(&rt, &mut desk, read, &text, &mut line, &mut out)?;
+        answer(&rt, &mut desk, read, &mut line, &mut out)?;
         rt.stdout().write_all(&out)?;
     }
     Ok(())
