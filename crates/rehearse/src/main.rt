@@ -27,8 +27,8 @@ fn play_on<R: BufRead>(
         out.clear();
         match text.read(script)? {
             Text::End => break,
-            Text::TooLong => answer_text(rehearsal, b"?", &mut out)?,
-            Text::Line => answer_text(rehearsal, text.text(), &mut out)?,
+            Text::TooLong(_) => answer_text(rehearsal, b"?", &mut out)?,
+            Text::Line(text) => answer_text(rehearsal, text, &mut out)?,
         }
         rt.stdout().write_all(&out)?;
         rehearsal.check_memory()?;

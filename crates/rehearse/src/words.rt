@@ -123,7 +123,11 @@ fn answer_input(r: &mut Rehearsal, input: Input, out: &mut Vec<u8>) -> Result<()
 
 // Answers a line of text after what `out` holds.
 pub fn answer_text(r: &mut Rehearsal, text: &[u8], out: &mut Vec<u8>) -> Result<(), AllocError> {
-    match read_order(text) {
+    let Some(order) = read_order(text) else {
+        let input = understand(text, &mut r.line);
+        return answer_input(r, input, out);
+    };
+    match order {
         Order::Drives(n) => say_done(out, r.set_size(n)),
         Order::Longest(n) => say_done(out, r.set_longest(n)),
         Order::MendWhole => say_mend_whole(r, out),
@@ -136,10 +140,6 @@ pub fn answer_text(r: &mut Rehearsal, text: &[u8], out: &mut Vec<u8>) -> Result<
             } else {
                 Ok(())
             }
-        }
-        Order::Other => {
-            let input = understand(text, &mut r.line);
-            answer_input(r, input, out)
         }
     }
 }
