@@ -1,6 +1,6 @@
 -- A decimal number, one more digit at a time; what is too large stays the largest.
 -- Assumes nothing.
-use Rattle.std.proofs.Common.{◌≡◌, ℕ, ◌+◌, ◌-◌, ◌*◌, ◌<◌, ◌≤◌, min, Bool, true, false, ◌&&◌, leb, List, [], ◌∷◌, length, get_or, drop, Some, None, sym, refl, ap, ◌∙◌, le_trans, arith, leb-true}
+use Rattle.std.proofs.Common.{◌≡◌, ℕ, ◌+◌, ◌-◌, ◌*◌, ◌<◌, ◌≤◌, min, Bool, true, false, ◌&&◌, leb, List, [], ◌∷◌, length, get_or, drop, Some, sym, refl, ap, ◌∙◌, le_trans, arith, leb-true}
 use native.Mathlib.Nat.{min-eq_left, min-eq_right}
 use Rattle.std.proofs.lemmas.Bool.Decides.{nat_tests}
 use Rattle.std.proofs.lemmas.List.{at_drop_more, at_drop_all}
@@ -47,9 +47,6 @@ read_more n xs i d h t e =
     ap (λ k. min k most) v ∙ value_capped (10 * n + (get_or xs i 0 - 48)) rest ∙ ap (λ k. min (value_from k rest) most) (sym (once n (get_or xs i 0 - 48)) ∙ ap (onward n) (sym e))
     in
     rw (p, w)
-
-pub read_bad : (n : ℕ) (xs : List ℕ) (i : ℕ) → i < length xs → is_ascii_digit (get_or xs i 0) ≡ false → read_from n (drop i xs) ≡ None
-read_bad n xs i h t = let p : list_all is_ascii_digit (drop i xs) ≡ false = digits_more xs i h ∙ ap (λ b. b && list_all is_ascii_digit (drop (i + 1) xs)) t in rw p
 
 pub read_all : (n : ℕ) (xs : List ℕ) (i : ℕ) → length xs ≤ i → n ≤ most → read_from n (drop i xs) ≡ Some n
 unfolding value_from

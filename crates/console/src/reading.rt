@@ -10,7 +10,7 @@ use std::ops::ControlFlow;
 const LONGEST: usize = 16_777_216;
 
 // What was read: a line with what ends it, the beginning of one that was too long to keep, or the end of the input.
-#[derive(Clone, Copy)]
+#[derive(Clone, Copy, PartialEq, Eq)]
 pub enum Text<'a> {
     Line(&'a [u8]),
     TooLong(&'a [u8]),
