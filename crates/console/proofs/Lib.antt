@@ -1,4 +1,3 @@
-pub mod Begins
-pub mod Passes
+pub mod Words
 pub mod Numbers
 pub mod Pairs

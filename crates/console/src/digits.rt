@@ -1,45 +1,33 @@
 // Digits: hexadecimal both ways, and decimal numbers.
 ghost use Rattle.std.specs.Prelude.{◌≡◌, ℕ, ◌+◌, ◌-◌, ◌*◌, ◌/◌, ◌%◌, ◌^◌, ◌<◌, ◌≤◌, min, Bool, true, false, cond, List, [], ◌++◌, length, OnOk};
-ghost use Rattle.console.specs.Hex.{is_digit, digit_value, all_pass, byte_at, unhexed, is_hex, line_of, Lays, digit, hexed, is_decimal, value_from, number_of};
+ghost use Rattle.std.specs.List.{list_all};
+ghost use Rattle.std.specs.Char.{is_ascii_hexdigit};
+ghost use Rattle.console.specs.Hex.{digit_value, byte_at, unhexed, is_hex, line_of, Lays, digit, hexed, value_from, number_in};
 
 use std::alloc::AllocError;
 
-fn is_digit(d: u8) -> bool
-    ensures { result ≡ is_digit d }
-{
-    d >= 48 && d <= 57 || (d >= 97 && d <= 102 || d >= 65 && d <= 70)
-}
-
+// What is no digit counts as 0.
 fn digit_value(d: u8) -> u8
     ensures value { result ≡ digit_value d }
     ensures bound { result < 16 }
 {
-    match d {
-        b'0'..=b'9' => d - b'0',
-        b'a'..=b'f' => d - b'a' + 10,
-        b'A'..=b'F' => d - b'A' + 10,
-        _ => 0,
-    }
+    char::from(d).to_digit(16).unwrap_or(0) as u8
 }
 
 fn are_digits(digits: &[u8]) -> bool
-    ensures { result ≡ all_pass is_digit digits.now }
+    ensures { result ≡ list_all is_ascii_hexdigit digits.now }
 {
-    for d in digits {
-        if !is_digit(*d) {
-            return false;
-        }
-    }
-    true
+    digits.iter().all(u8::is_ascii_hexdigit)
 }
 
 // The bytes that pairs of digits stand for, as many as there is room for.
 fn lay_pairs(digits: &[u8], line: &mut [u8]) -> usize
     ensures { Lays (unhexed digits.now) line.old line.new result }
 {
-    let n = (digits.len() / 2).min(line.len());
-    for i in 0..n {
-        line[i] = 16 * digit_value(digits[2 * i]) + digit_value(digits[2 * i + 1]);
+    let (pairs, _) = digits.as_chunks::<2>();
+    let n = pairs.len().min(line.len());
+    for (i, [high, low]) in pairs[..n].iter().enumerate() {
+        line[i] = 16 * digit_value(*high) + digit_value(*low);
     }
     n
 }
@@ -55,11 +43,12 @@ pub fn unhex(digits: &[u8], line: &mut [u8]) -> usize
     }
 }
 
+// The library's `from_digit` would answer an Option here, which is never none.
 fn to_digit(n: u8) -> u8
     requires { n < 16 }
     ensures { result ≡ digit n }
 {
-    if n < 10 { 48 + n } else { 87 + n }
+    if n < 10 { b'0' + n } else { b'a' + n - 10 }
 }
 
 // Writes bytes as digits of lower case after what is there.
@@ -73,25 +62,17 @@ pub fn push_hex(out: &mut Vec<u8>, bytes: &[u8]) -> Result<(), AllocError>
     Ok(())
 }
 
-fn is_decimal(d: u8) -> bool
-    ensures { result ≡ is_decimal d }
+// A number in decimal digits; what is more than eight bytes hold counts as the largest that they do.
+pub fn number(digits: &[u8]) -> Option<u64>
+    ensures { result ≡ number_in digits.now }
 {
-    d >= 48 && d <= 57
-}
-
-// A number of eight bytes in decimal digits; the largest, where they are none.
-pub fn number(digits: &[u8]) -> u64
-    ensures { result ≡ number_of digits.now }
-{
-    if digits.len() == 0 {
-        return u64::MAX;
+    if digits.is_empty() {
+        return None;
     }
-    let mut n: u64 = 0;
+    let mut n = 0u64;
     for d in digits {
-        if !is_decimal(*d) {
-            return u64::MAX;
-        }
-        n = n.saturating_mul(10).saturating_add((*d - 48) as u64);
+        let value = char::from(*d).to_digit(10)?;
+        n = n.saturating_mul(10).saturating_add(u64::from(value));
     }
-    n
+    Some(n)
 }

@@ -1,33 +1,34 @@
 // Lines of text from a reader, within a bounded memory.
-ghost use Rattle.std.specs.Prelude.{◌≡◌, ◌+◌, ◌≤◌, false, length, IfOk, if◌then◌else◌, vec_len};
+ghost use Rattle.std.specs.Prelude.{◌≡◌, ◌+◌, ◌≤◌, ◌↔◌, length, IfOk, IsTrue, vec_len};
 
 use std::alloc::Global;
 use std::io;
 use std::io::{BufRead, ErrorKind};
+use std::ops::ControlFlow;
 
 // The longest line of text that is kept, in bytes, with what ends it. A longer one is passed over.
 const LONGEST: usize = 16_777_216;
 
-// What was read: a line, one that was too long to keep, or the end of the input.
+// What was read: a line with what ends it, the beginning of one that was too long to keep, or the end of the input.
 #[derive(Clone, Copy, PartialEq, Eq)]
-pub enum Text {
-    Line,
-    TooLong,
+pub enum Text<'a> {
+    Line(&'a [u8]),
+    TooLong(&'a [u8]),
     End,
 }
 
+// Why no more of a line is kept.
 #[derive(Clone, Copy, PartialEq, Eq)]
-enum Part {
-    More,
-    Last,
-    Nothing,
+enum Stop {
+    LineEnd,
+    InputEnd,
+    NoRoom,
 }
 
 // The line that is being read. Its memory is bounded, whatever the input holds.
 #[derive(Drop)]
 pub struct TextLine {
     text: Vec<u8>,
-    too_long: bool,
     ghost bounded: { vec_len text ≤ 16777216 },
 }
 
@@ -35,87 +36,88 @@ pub struct TextLine {
 fn through_end(bytes: &[u8]) -> usize
     ensures { result ≤ length bytes.now }
 {
-    for (i, b) in bytes.iter().enumerate() {
-        if *b == b'\n' {
-            return i + 1;
-        }
+    match bytes.iter().position(|b| *b == b'\n') {
+        Some(i) => i + 1,
+        None => bytes.len(),
     }
-    bytes.len()
 }
 
 impl TextLine {
+    ghost use Rattle.std.specs.Borrow.{sem};
+    ghost use Rattle.std.specs.Io.BufRead.{Rests};
+    ghost use Rattle.console.specs.contracts.reading.TextLine.{the_row};
+    ghost use Rattle.console.specs.Reading.{Holds};
+
     pub fn new(heap: Global) -> TextLine
-        ensures { (vec_len result.text ≡ 0) × (result.too_long ≡ false) }
+        ensures { vec_len result.text ≡ 0 }
     {
         TextLine {
             text: Vec::new(heap),
-            too_long: false,
         }
     }
 
-    pub fn text(&self) -> &[u8]
-        ensures { result.now ≡ self.now.text.items }
+    // Whether so many bytes more can be kept.
+    fn has_room(&self, n: usize) -> bool
+        ensures { IsTrue result ↔ (vec_len self.now.text + n ≤ 16777216) }
     {
-        self.text.as_slice()
+        n <= LONGEST - self.text.len()
     }
 
     // Keeps what the reader has at hand of the line.
-    fn take_part<R: BufRead>(&mut self, from: &mut R) -> io::Result<Part> {
+    fn keep_part<R: BufRead>(&mut self, from: &mut R) -> io::Result<ControlFlow<Stop>> {
         let held = match from.fill_buf() {
             Ok(held) => held,
-            Err(e) => {
-                return if e.kind() == ErrorKind::Interrupted {
-                    Ok(Part::More)
-                } else {
-                    Err(e)
-                };
-            }
+            Err(e) if e.kind() == ErrorKind::Interrupted => return Ok(ControlFlow::Continue(())),
+            Err(e) => return Err(e),
         };
+        if held.is_empty() {
+            return Ok(ControlFlow::Break(Stop::InputEnd));
+        }
         let n = through_end(held);
-        if n == 0 {
-            return Ok(Part::Nothing);
+        if !self.has_room(n) {
+            return Ok(ControlFlow::Break(Stop::NoRoom));
         }
-        let part = if held[n - 1] == b'\n' {
-            Part::Last
-        } else {
-            Part::More
-        };
-        if self.too_long || n > LONGEST - self.text.len() {
-            self.too_long = true;
-        } else {
-            self.text.extend_from_slice(&held[0..n])?;
-        }
+        let part = &held[..n];
+        let ended = part.ends_with(b"\n");
+        self.text.extend_from_slice(part)?;
         from.consume(n);
-        Ok(part)
+        Ok(if ended {
+            ControlFlow::Break(Stop::LineEnd)
+        } else {
+            ControlFlow::Continue(())
+        })
     }
 
-    // Reads the next line, in the place of the last one.
-    pub fn read<R: BufRead>(&mut self, from: &mut R) -> io::Result<Text>
-        ensures { IfOk result (λ t. (t ≡ Text.End → vec_len self.new.text ≡ 0)) }
-    {
+    // Keeps the next line, in the place of the last one.
+    fn keep_line<R: BufRead>(&mut self, from: &mut R) -> io::Result<Stop> {
         self.text.clear();
-        self.too_long = false;
         for _ in 0..u64::MAX {
-            match self.take_part(from)? {
-                Part::More => {}
-                Part::Last => return Ok(self.line()),
-                Part::Nothing => break,
+            if let ControlFlow::Break(stop) = self.keep_part(from)? {
+                return Ok(stop);
             }
         }
-        if self.text.is_empty() && !self.too_long {
-            Ok(Text::End)
-        } else {
-            Ok(self.line())
+        Ok(Stop::InputEnd)
+    }
+
+    // What was kept, by why it is no more.
+    fn kept(&self, stop: Stop) -> Text<'_>
+        ensures { Holds result self.now }
+    {
+        match stop {
+            Stop::InputEnd if self.text.is_empty() => Text::End,
+            Stop::LineEnd | Stop::InputEnd => Text::Line(&self.text),
+            Stop::NoRoom => Text::TooLong(&self.text),
         }
     }
 
-    fn line(&self) -> Text
-        ensures { result ≡ (if self.now.too_long then Text.TooLong else Text.Line) }
+    // Reads the next line.
+    pub fn read<R: BufRead>(&mut self, from: &mut R) -> io::Result<Text<'_>>
+        ensures* after { sem 𝓛 (Rests the_row self.entry (λ new. IfOk result (λ t. Holds t new))) }
     {
-        if self.too_long {
-            Text::TooLong
-        } else {
-            Text::Line
+        let stop = self.keep_line(from)?;
+        if stop == Stop::NoRoom {
+            from.skip_until(b'\n')?;
         }
+        Ok(self.kept(stop))
     }
 }

@@ -20,18 +20,16 @@ const HELP: &str = "help: in HEX (a line of bytes) | time MS | mend (one stretch
 fn obey(
     rt: &(impl Files<File = File> + Eprint),
     desk: &mut Desk,
-    read: Text,
-    text: &TextLine,
+    read: Text<'_>,
     line: &mut [u8],
     out: &mut Vec<u8>,
 ) -> Result<(), Trouble> {
-    let input = match read {
-        Text::Line => understand(text.text(), line),
-        _ => Input::Line(0),
+    let Text::Line(text) = read else {
+        return desk.call(rt, b"", out);
     };
-    match input {
+    match understand(text, line) {
         Input::Nothing => {}
-        Input::Line(n) => desk.call(rt, &line[0..n.min(line.len())], out)?,
+        Input::Line(n) => desk.call(rt, &line[..n], out)?,
         Input::Tells(ms) => desk.tell(rt, ms, out)?,
         Input::Mends => desk.mend(rt, out)?,
         Input::Asks => desk.status(rt, out)?,
@@ -53,7 +51,7 @@ fn main(rt: HostRuntime) -> io::Result<()> {
             break;
         }
         out.clear();
-        match obey(&rt, &mut desk, read, &text, &mut line, &mut out) {
+        match obey(&rt, &mut desk, read, &mut line, &mut out) {
             Ok(()) => {}
             Err(Trouble::Io(error)) => return Err(error),
             Err(trouble) => writeln!(out, "{trouble}")?,

@@ -24,8 +24,8 @@ fn play_on<R: BufRead>(
         out.clear();
         match text.read(script)? {
             Text::End => break,
-            Text::TooLong => rehearsal.answer(b"?", &mut out)?,
-            Text::Line => rehearsal.answer(text.text(), &mut out)?,
+            Text::TooLong(_) => rehearsal.answer(b"?", &mut out)?,
+            Text::Line(text) => rehearsal.answer(text, &mut out)?,
         }
         rt.write_all(&out)?;
         rehearsal.check_memory()?;

@@ -89,7 +89,11 @@ impl Rehearsal {
     }
 
     fn obey(&mut self, text: &[u8], out: &mut Vec<u8>) -> Result<(), Trouble> {
-        match read_order(text) {
+        let Some(order) = read_order(text) else {
+            let input = understand(text, &mut self.line);
+            return self.answer_input(input, out);
+        };
+        match order {
             Order::Drives(n) => self.set_size(n)?,
             Order::Longest(n) => self.set_longest(n)?,
             Order::MendWhole => self.say_mend_whole(out)?,
@@ -97,10 +101,6 @@ impl Rehearsal {
             Order::Replace(i) => self.replace(i)?,
             Order::Asked => self.say_asked(out)?,
             Order::Cut { after, chosen } => self.cut_after(after, chosen)?,
-            Order::Other => {
-                let input = understand(text, &mut self.line);
-                self.answer_input(input, out)?
-            }
         }
         Ok(())
     }

@@ -1,2 +1,1 @@
-pub mod Spaces
 pub mod Weakened

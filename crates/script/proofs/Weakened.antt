@@ -1,25 +1,21 @@
--- How many others are weak, one more drive at a time.
+-- How many others are weak.
 -- Assumes nothing.
-use Rattle.std.proofs.Common.{◌≡◌, ℕ, suc, ◌+◌, ◌<◌, ◌≤◌, Bool, true, false, cond, not, ◌&&◌, eqb, List, ◌∷◌, length, get_or, drop, refl, ◌∙◌}
-use Rattle.std.proofs.lemmas.List.{at_drop_more, at_drop_all}
+use Rattle.std.proofs.Common.{◌≡◌, ℕ, suc, ◌+◌, Bool, true, false, cond, not, ◌&&◌, eqb, List, [], ◌∷◌, length, refl, ap}
+use Rattle.std.specs.List.{filter, enumerate_from}
 use Rattle.drives.specs.Machines.{without}
 use Rattle.script.specs.Weaks.{weak_from}
 
-abbrev pub others_from : ℕ → ℕ → List Bool → ℕ
-others_from d i ws = length (without d (weak_from i ws))
+-- a drive with its number is weak, and another than d
+abbrev pub is_other : ℕ → ℕ × Bool → Bool
+is_other d p = p.1 && not (eqb d p.0)
 
-one_more : (d i : ℕ) (b : Bool) (ws : List Bool) → others_from d i (b ∷ ws) ≡ cond (b && not (eqb d i)) (suc (others_from d (i + 1) ws)) (others_from d (i + 1) ws)
+pub others_are : (d i : ℕ) (ws : List Bool) → length (filter (is_other d) (enumerate_from i ws)) ≡ length (without d (weak_from i ws))
 unfolding weak_from without
-one_more d i true ws = go (eqb d i)
+others_are d i [] = refl
+others_are d i (true ∷ ws) = go (eqb d i) (others_are d (i + 1) ws)
   where
-    go : (v : Bool) → length (cond v (without d (weak_from (i + 1) ws)) (i ∷ without d (weak_from (i + 1) ws))) ≡ cond (not v) (suc (others_from d (i + 1) ws)) (others_from d (i + 1) ws)
-    go true = refl
-    go false = refl
-one_more d i false ws = refl
-
-pub others_more : (d i : ℕ) (ws : List Bool) → i < length ws → others_from d i (drop i ws) ≡ cond (get_or ws i false && not (eqb d i)) (suc (others_from d (i + 1) (drop (i + 1) ws))) (others_from d (i + 1) (drop (i + 1) ws))
-others_more d i ws h = at_drop_more (others_from d i) ws i false h ∙ one_more d i (get_or ws i false) (drop (i + 1) ws)
-
-pub others_all : (d i : ℕ) (ws : List Bool) → length ws ≤ i → others_from d i (drop i ws) ≡ 0
-unfolding weak_from without
-others_all d i ws h = at_drop_all (others_from d i) ws i h
+    go : (v : Bool) → length (filter (is_other d) (enumerate_from (i + 1) ws)) ≡ length (without d (weak_from (i + 1) ws)) →
+        length (cond (not v) ((i, true) ∷ filter (is_other d) (enumerate_from (i + 1) ws)) (filter (is_other d) (enumerate_from (i + 1) ws))) ≡ length (cond v (without d (weak_from (i + 1) ws)) (i ∷ without d (weak_from (i + 1) ws)))
+    go true e = e
+    go false e = ap suc e
+others_are d i (false ∷ ws) = others_are d (i + 1) ws

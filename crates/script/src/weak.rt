@@ -3,6 +3,8 @@ ghost use Rattle.std.specs.Prelude.{◌≡◌, ℕ, ◌+◌, ◌<◌, ◌≤◌,
 ghost use Rattle.drives.specs.Machines.{without};
 ghost use Rattle.script.specs.Weaks.{weak_from, may_lose, lost_of};
 
+use std::array;
+
 #[derive(Clone, Copy)]
 pub struct Weak {
     pub drives: [bool; 6],
@@ -20,13 +22,11 @@ impl Weak {
     fn others(&self, drive: usize) -> usize
         ensures { result ≡ length (without drive (weak_from 0 self.now.drives)) }
     {
-        let mut n = 0;
-        for i in 0..6usize {
-            if self.drives[i] && i != drive {
-                n += 1;
-            }
-        }
-        n
+        self.drives
+            .iter()
+            .enumerate()
+            .filter(|(i, weak)| **weak && drive != *i)
+            .count()
     }
 
     // A drive may be lost while fewer than two others are weak.
@@ -48,8 +48,7 @@ impl Weak {
     pub fn whole(&mut self, gone: &[bool; 6])
         ensures { (i : ℕ) → i < 6 → slice_index_or self.new.drives i false ≡ (slice_index_or self.old.drives i false && slice_index_or gone.now i false) }
     {
-        for i in 0..6usize {
-            self.drives[i] = self.drives[i] && gone[i];
-        }
+        let weak = self.drives;
+        self.drives = array::from_fn(|i| weak[i] && gone[i]);
     }
 }

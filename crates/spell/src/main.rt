@@ -6,8 +6,8 @@ use asks::write_call;
 use console::{Input, Text, TextLine, understand};
 use lines::calls::read_call;
 use lines::order::{kind_of, tag_of};
-use std::io;
 use std::io::BufReader;
+use std::{fmt, io};
 
 // What came of reading a line one way.
 #[derive(Clone, Copy)]
@@ -17,24 +17,20 @@ enum Read {
     Other,
 }
 
-fn word(read: Read) -> &'static str {
-    match read {
-        Read::None => "no",
-        Read::Same => "yes",
-        Read::Other => "yes, but written otherwise",
+impl fmt::Display for Read {
+    fn fmt<W: fmt::Write>(&self, f: &mut fmt::Formatter<W>) -> fmt::Result {
+        f.write_str(match self {
+            Read::None => "no",
+            Read::Same => "yes",
+            Read::Other => "yes, but written otherwise",
+        })
     }
 }
 
 fn compare(line: &[u8], written: Option<usize>, again: &[u8]) -> Read {
     match written {
-        Some(n) => {
-            if n <= again.len() && &again[0..n] == line {
-                Read::Same
-            } else {
-                Read::Other
-            }
-        }
-        None => Read::Other,
+        Some(n) if again.get(..n) == Some(line) => Read::Same,
+        _ => Read::Other,
     }
 }
 
@@ -55,8 +51,8 @@ fn as_answer(line: &[u8], again: &mut [u8]) -> Read {
 }
 
 fn say(rt: &HostRuntime, line: &[u8], again: &mut [u8]) -> io::Result<()> {
-    let call = word(as_call(line, again));
-    let answer = word(as_answer(line, again));
+    let call = as_call(line, again);
+    let answer = as_answer(line, again);
     let kind = kind_of(line).unwrap_or(255);
     println!(rt; "kind {kind}: call {call}, answer {answer}")
 }
@@ -68,12 +64,12 @@ fn main(rt: HostRuntime) -> io::Result<()> {
     let mut line = vec![in heap; 0u8; 4096]?;
     let mut again = vec![in heap; 0u8; 4096]?;
     for _ in 0..u64::MAX {
-        if let Text::End = text.read(&mut input)? {
-            break;
-        }
-        if let Input::Line(n) = understand(text.text(), &mut line) {
-            let n = n.min(line.len());
-            say(&rt, &line[0..n], &mut again)?;
+        let text = match text.read(&mut input)? {
+            Text::Line(text) | Text::TooLong(text) => text,
+            Text::End => break,
+        };
+        if let Input::Line(n) = understand(text, &mut line) {
+            say(&rt, &line[..n], &mut again)?;
         }
     }
     Ok(())

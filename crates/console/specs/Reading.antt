@@ -1,0 +1,12 @@
+-- What was read of a line of text.
+-- Assumes nothing.
+use Rattle.std.specs.Prelude.{◌≡◌, vec_len}
+use Rattle.console.specs.declared.reading.Text.{Text}
+use Rattle.console.specs.declared.reading.Text.TheVariants.{Line, TooLong, End}
+use Rattle.console.specs.declared.reading.TextLine.{TextLine}
+
+-- a text is all that is kept, and at the end of the input nothing is
+abbrev pub Holds : Text → TextLine → Type 0
+Holds (Line bs) l = bs.now ≡ l.text.items
+Holds (TooLong bs) l = bs.now ≡ l.text.items
+Holds End l = vec_len l.text ≡ 0
