@@ -87,10 +87,12 @@ fn with_number(text: &[u8]) -> Option<Order>
 fn order_in(text: &[u8]) -> Option<Order>
     ensures { result ≡ order_of text.now }
 {
-    match text {
-        b"mend whole" => Some(Order::MendWhole),
-        b"asked" => Some(Order::Asked),
-        _ => with_number(text),
+    if text == b"mend whole".as_slice() {
+        Some(Order::MendWhole)
+    } else if text == b"asked".as_slice() {
+        Some(Order::Asked)
+    } else {
+        with_number(text)
     }
 }
 
