@@ -4,7 +4,7 @@
 ghost use Rattle.std.specs.Prelude.{◌≡◌, if◌then◌else◌, nat_lt, slice_index_or, count_by};
 ghost use Rattle.bays.specs.Bays.{label_of, fits, votes, better, elected, admitted, Admits, is_there, settled, unseen};
 
-use std::fmt;
+use std::{array, fmt};
 
 // The bytes of a sector.
 const SECTOR: u64 = 512;
@@ -144,14 +144,6 @@ fn elect(seen: &[Option<Found>; 6]) -> Option<u64>
         .map(|bytes| bytes / SECTOR)
 }
 
-fn admit_all(drives: &mut [Drive; 6], seen: &[Option<Found>; 6], sectors: Option<u64>)
-    ensures { Admits drives.old drives.new seen.now sectors }
-{
-    for (i, file) in seen.iter().enumerate() {
-        drives[i] = admit(drives[i], *file, sectors);
-    }
-}
-
 // The drives 0 to 5, as they stood when they were last looked at.
 #[derive(Clone, Copy)]
 pub struct Drives {
@@ -192,6 +184,7 @@ impl Drives {
         if self.sectors.is_none() {
             self.sectors = elect(seen);
         }
-        admit_all(&mut self.at, seen, self.sectors);
+        let Drives { at, sectors } = *self;
+        self.at = array::from_fn(|i| admit(at[i], seen[i], sectors));
     }
 }

@@ -5,8 +5,8 @@ ghost use Rattle.field.specs.Stripe.{lost_row};
 
 use elements::Four;
 
-#[tactic(auto, using(crate::proofs::LostRows::sum_row), unfolding(field::specs::Stripe::lost_row, field::specs::Stripe::inverse, field::specs::Field::dot, field::specs::Field::times, field::specs::Field::by, field::specs::Field::double))]
 // The piece at a place, where it and another are lost, of the other four.
+#[tactic(auto, using(crate::proofs::LostRows::sum_row), unfolding(field::specs::Stripe::lost_row, field::specs::Stripe::inverse, field::specs::Field::dot, field::specs::Field::times, field::specs::Field::by, field::specs::Field::double))]
 pub(crate) fn fill_lost(wanted: usize, other: usize, four: &Four, out: &mut [u8])
     requires out_len { length out.old ≡ length four.now.w.now }
     requires lost { (wanted < 6) × ((other < 6) × (wanted ≢ other)) }
