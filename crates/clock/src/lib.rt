@@ -68,11 +68,7 @@ impl Planner for Clock {
     ghost planned = { λ size lo hi. planned_so (λ b tag t time. elim b as (λ b. TellsSo b tag t time) [ true ↦ Plans.calls (λ r. Plans.ends (refl, refl)) | false ↦ Plans.ends (refl, refl) ]) size };
 
     fn open(&mut self, size: u64) {
-        *self = Clock {
-            time: 0,
-            tag: 0,
-            phase: Phase::Rising,
-        };
+        *self = Clock::new();
     }
 
     fn begin(&mut self, c: Asked) {
@@ -120,6 +116,17 @@ impl Planner for Clock {
 }
 
 impl Clock {
+    // As it is before it comes up: it knows of no time.
+    pub fn new() -> Clock
+        ensures { result ≡ record { time = 0; tag = 0; phase = Phase.Rising } }
+    {
+        Clock {
+            time: 0,
+            tag: 0,
+            phase: Phase::Rising,
+        }
+    }
+
     // The time to be kept once this was heard: one in range, if it is later.
     fn kept(&self, heard: Result<u64, Refusal>) -> Result<u64, Refusal>
         ensures { result ≡ time_kept heard self.now.time }

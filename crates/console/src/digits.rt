@@ -26,6 +26,7 @@ fn lay_pairs(digits: &[u8], line: &mut [u8]) -> usize
 {
     let (pairs, _) = digits.as_chunks::<2>();
     let n = pairs.len().min(line.len());
+    // By index: after a zip over `iter_mut` nothing is known of what was written.
     for (i, [high, low]) in pairs[..n].iter().enumerate() {
         line[i] = 16 * digit_value(*high) + digit_value(*low);
     }

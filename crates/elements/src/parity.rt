@@ -14,7 +14,7 @@ pub(crate) fn encode_vectors(four: &Four, p: &mut [u8], q: &mut [u8])
     ensures q { take (length four.now.w.now / 32 * 32) q.new ≡ take (length four.now.w.now / 32 * 32) (blended (generator 5) four.now) }
 {
     let Four { w, x, y, z } = *four;
-    // By index: six slices go side by side, and zips would nest them five deep.
+    // By index: six slices go side by side, and after a zip over `iter_mut` nothing is known of what was written.
     for i in 0..w.len() / WIDTH {
         let at = i * WIDTH;
         let a = load(w, at);

@@ -14,7 +14,7 @@ fn blend_vectors<const A: u8, const B: u8, const C: u8, const D: u8>(four: &Four
     ensures { take (length four.now.w.now / 32 * 32) out.new ≡ take (length four.now.w.now / 32 * 32) (blended (row A B C D) four.now) }
 {
     let Four { w, x, y, z } = *four;
-    // By index: five slices go side by side, and zips would nest them four deep.
+    // By index: five slices go side by side, and after a zip over `iter_mut` nothing is known of what was written.
     for i in 0..w.len() / WIDTH {
         let at = i * WIDTH;
         let a = load(w, at);

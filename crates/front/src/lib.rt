@@ -10,7 +10,7 @@ ghost use Rattle.answers.specs.Says.{says, fits};
 ghost use Rattle.front.specs.Fronts.{held_in, house_over, Answered, LineDone};
 
 use answers::{Answer, write_answer};
-use clock::{Asked, Clock, Phase, Told};
+use clock::{Asked, Clock, Told};
 use driver::{Disks, Running};
 use lines::calls::Call;
 use lines::order::{Built, Refusal, tag_of, turned_away};
@@ -67,13 +67,8 @@ impl<L: Stepper<Call = register::Call, Reply = register::Reply>> House<L> {
     pub fn new(lower: L, longest: usize) -> House<L>
         ensures { result.longest ≡ longest }
     {
-        let upper = Clock {
-            time: 0,
-            tag: 0,
-            phase: Phase::Rising,
-        };
         let running = Running::new(Stack {
-            upper,
+            upper: Clock::new(),
             lower,
             doing: Doing::Opens,
         });

@@ -163,6 +163,7 @@ impl Desk {
         self.look(rt);
         let sectors = self.drives.sectors.unwrap_or(0);
         write!(out, "status: {sectors} sectors")?;
+        // by number here too
         for i in 0..6 {
             let state = self.drives.state(i);
             write!(out, ", drive{i} {state}")?;

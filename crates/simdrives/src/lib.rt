@@ -192,6 +192,7 @@ impl SimDrives {
             return;
         }
         self.counts.writes = self.counts.writes.saturating_add(1);
+        // two tests: joined by `&&` the proof doesn't close
         if drive < self.drives.len() {
             let done = write(&mut self.drives[drive], self.heap, sector, bytes);
             if done.is_err() {
