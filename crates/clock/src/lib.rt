@@ -37,7 +37,7 @@ pub enum Phase {
 
 #[derive(Clone, Copy, PartialEq, Eq)]
 pub struct Clock {
-    // the time that was last told, in ms; 0 for none
+    // the time that was last told, in ms; 0 for none, as in a payload
     pub time: u64,
     // of the line that is being answered
     pub tag: u32,

@@ -63,7 +63,8 @@ impl<M: Stepper> Running<M> {
         }
     }
 
-    // One step, with what the last request gave. A step takes bytes, none where nothing was read: so the readable machines speak of it, and an array would ask more of who calls it.
+    // One step, with what the last request gave. `Stepper::step` takes any bytes, and none where nothing was read: the readable machines speak of it so, and a
+    // narrower type would ask more of its callers.
     fn step(&mut self, got: Option<[u8; 512]>) -> Ask
         ensures { record { me = M.Stepper.view self.new.machine; lent = self.new.lent; ask = result } ≡ M.Stepper.code.steps (held_by M.Stepper.view self.old) (unwrap_or got []) }
     {

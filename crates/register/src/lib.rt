@@ -4,7 +4,7 @@
 // What a root record carries. By default no time was told.
 #[derive(Clone, Copy, Default, PartialEq, Eq)]
 pub struct Payload {
-    // the time that was last told, in ms; 0 for none
+    // the time that was last told, in ms; 0 for none, as on the drives and in the written meaning
     pub time: u64,
 }
 
