@@ -46,7 +46,7 @@ impl TextLine {
     ghost use Rattle.std.specs.Borrow.{sem};
     ghost use Rattle.std.specs.Io.BufRead.{Rests};
     ghost use Rattle.console.specs.contracts.reading.TextLine.{the_row};
-    ghost use Rattle.console.specs.Reading.{Holds};
+    ghost use Rattle.console.specs.Reading.{Holds, is_too_long, no_room};
 
     pub fn new(heap: Global) -> TextLine
         ensures { vec_len result.text ≡ 0 }
@@ -101,7 +101,8 @@ impl TextLine {
 
     // What was kept, by why it is no more.
     fn kept(&self, stop: Stop) -> Text<'_>
-        ensures { Holds result self.now }
+        ensures holds { Holds result self.now }
+        ensures told { is_too_long result ≡ no_room stop }
     {
         match stop {
             Stop::InputEnd if self.text.is_empty() => Text::End,

@@ -13,15 +13,14 @@ use Rattle.clock.specs.declared.Clock.{Clock}
 use Rattle.clock.specs.Spelled.{line_code}
 use Rattle.fills.specs.Fills.{Wrote}
 use Rattle.front.specs.declared.House.{House}
-use Rattle.front.specs.declared.TheConstants.{MOST}
 
 -- what a house holds, where `view` says what state the machine below its clock is in
 abbrev pub held_in : {A L : Type 0} → (A → L) → House A → Held (Stack Clock L)
 held_in view h = held_by (λ s. record { upper = s.upper; lower = view s.lower; doing = s.doing }) h.running
 
--- the machine of the code of a house: the clock over the steps s, asked and answered by lines, with MOST requests for each
+-- the machine of the code of a house: the clock over the steps s, asked and answered by lines, with 1,000 requests for each
 abbrev pub house_over : {L : Type 0} → Stepping Call Reply L → ℕ → Machine (List ℕ) (List ℕ)
-house_over s longest = machine_of (stack_of (line_code longest) s) MOST
+house_over s longest = machine_of (stack_of (line_code longest) s) 1000
 
 -- the bytes of an answer are laid at the front of the buffer, if there is room for them; else nothing is
 abbrev pub Answered : List ℕ → List ℕ → Option ℕ → List ℕ → Type 0

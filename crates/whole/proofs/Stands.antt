@@ -25,7 +25,6 @@ use Rattle.recorder.specs.declared.Recorder.{Recorder}
 use Rattle.recorder.specs.Recording.{recorder_code, recorded, RecorderSame}
 use Rattle.recorder.specs.Tied.{recorder_tied}
 use Rattle.recorder.proofs.Stands.{recorded_keeps, recorded_within}
-use Rattle.front.specs.declared.TheConstants.{MOST}
 use Rattle.lines.specs.Order.{only_time}
 use Rattle.promise.specs.Promise.{house}
 use Rattle.whole.specs.Wholes.{TimeStands}
@@ -49,6 +48,6 @@ module _ (longest : ℕ) where
 
 pub time_stands : TimeStands
 time_stands longest = (
-  code_keeps {S = Same longest} (λ size lo hi. tied longest size) (house only_time longest) (keeps longest) MOST (omega arith),
-  code_within {S = Same longest} (λ size lo hi. tied longest size) (within longest) MOST (omega arith),
+  code_keeps {S = Same longest} (λ size lo hi. tied longest size) (house only_time longest) (keeps longest) 1000 (omega arith),
+  code_within {S = Same longest} (λ size lo hi. tied longest size) (within longest) 1000 (omega arith),
 )

@@ -1,7 +1,6 @@
 use Rattle.clock.specs.Spelled.{told_bytes}
 use Rattle.front.specs.Fronts.{held_in}
 use Rattle.front.specs.declared.House.{House}
-use Rattle.front.specs.declared.TheConstants.{MOST}
 use Rattle.front.proofs.Spelt.{line_leaves}
 use Rattle.front.proofs.House.call.Goals as goal
 
@@ -15,6 +14,6 @@ returns-clause-ran g c = λ k.
       record {
         bytes = told_bytes c.call-told.result;
         written = c.write_told.ensures;
-        ran = line_leaves g.L.Stepper.code me.longest MOST c.args.line.now c.hear-asked.result (held me) (held me') c.call-told.result (g.D.Disks.model c.args.disks.now) (g.D.Disks.model c.call-told.new.disks) c.hear-asked.ensures ran;
+        ran = line_leaves g.L.Stepper.code me.longest 1000 c.args.line.now c.hear-asked.result (held me) (held me') c.call-told.result (g.D.Disks.model c.args.disks.now) (g.D.Disks.model c.call-told.new.disks) c.hear-asked.ensures ran;
       },
     )
