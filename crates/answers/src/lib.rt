@@ -38,7 +38,8 @@ pub enum Answer<'a> {
         length: u64,
         bytes: &'a [u8],
     },
-    // the entries as they stand on the line: Entry::first takes them off one by one
+    // the entries as they stand on the line: Entry::first takes them off one by one; their count stands beside them as
+    // it does on the line, since a type that keeps them so many would ask more of whoever makes an answer
     List {
         count: u16,
         entries: &'a [u8],
