@@ -1,7 +1,7 @@
 // The answers on a line. Their bytes and entries are parts of a buffer: nothing is copied but to the line.
 #![tactic(auto)]
 
-ghost use Rattle.std.specs.Prelude.{◌≡◌, length, nat_le, Some, None};
+ghost use Rattle.std.specs.Prelude.{◌≡◌, true, length, nat_le, Some, None};
 ghost use Rattle.fills.specs.Fills.{Added, Wrote};
 ghost use Rattle.meaning.specs.Rooms.{Shown};
 ghost use Rattle.lines.specs.Calls.{line_of};
@@ -9,7 +9,7 @@ ghost use Rattle.lines.specs.Kinds.{Decodes};
 ghost use Rattle.lines.specs.Fits.{is_name};
 ghost use Rattle.lines.specs.Replies.{answer_in, entry, entry_in, got_in, list_in, no_in, num_in, reply_bytes, reply_in};
 ghost use Rattle.answers.specs.Kinds.{code_of};
-ghost use Rattle.answers.specs.Says.{fits, said, saying, says, shows};
+ghost use Rattle.answers.specs.Says.{fits, reply_of, said, saying, says, shows};
 
 use Kind::{Full, Got, List, No, Number, Yes};
 use fills::Field::{Content, Name, Plain, U8, U16, U64};
@@ -45,6 +45,18 @@ pub enum Answer<'a> {
         entries: &'a [u8],
     },
     Full,
+}
+
+// What a call is answered that has nothing to tell but that it was done.
+impl From<Result<(), Refusal>> for Answer<'static> {
+    ghost from_gives = { λ said answer. says answer ≡ reply_of said × fits answer ≡ true };
+
+    fn from(said: Result<(), Refusal>) -> Answer<'static> {
+        match said {
+            Ok(()) => Answer::Yes,
+            Err(why) => Answer::No(why),
+        }
+    }
 }
 
 impl<'a> Item<'a> for Entry<'a> {
