@@ -1,7 +1,7 @@
 // The answers on a line. Their bytes and entries are parts of a buffer: nothing is copied but to the line.
 #![tactic(auto)]
 
-ghost use Rattle.std.specs.Prelude.{◌≡◌, true, length, nat_le, Some, None};
+ghost use Rattle.std.specs.Prelude.{◌≡◌, true, nat_le};
 ghost use Rattle.fills.specs.Fills.{Added, Wrote};
 ghost use Rattle.meaning.specs.Rooms.{Shown};
 ghost use Rattle.lines.specs.Calls.{line_of};

@@ -1,8 +1,7 @@
 // The front of a house: lines of bytes come in, and go out. It is the clock over whatever keeps a payload.
 #![tactic(auto)]
 
-ghost use Rattle.std.specs.Prelude.{◌≡◌, ℕ, true};
-ghost use Rattle.drives.specs.Drives.{Drives};
+ghost use Rattle.std.specs.Prelude.{◌≡◌};
 ghost use Rattle.driver.specs.Known.{WhereKnown};
 ghost use Rattle.driver.specs.Loops.{Leaves};
 ghost use Rattle.clock.specs.Spelled.{asked_in, told_bytes};

@@ -1,7 +1,7 @@
 // A call on a line. Its names, keys and bytes are parts of the line: nothing is copied.
-ghost use Rattle.std.specs.Prelude.{◌≡◌, true, false, cond, Some, None};
+ghost use Rattle.std.specs.Prelude.{◌≡◌};
 ghost use Rattle.meaning.specs.Rooms as meaning;
-ghost use Rattle.lines.specs.Calls.{abort_in, at_end, begin_in, call_in, complete_in, drop_room_in, expected_in, get_in, hold_in, look_in, make_room_in, part_in, put_in, remove_in, rule_in, rules_in, time_in, versions_in};
+ghost use Rattle.lines.specs.Calls.{abort_in, begin_in, call_in, complete_in, drop_room_in, expected_in, get_in, hold_in, look_in, make_room_in, part_in, put_in, remove_in, rule_in, rules_in, time_in, versions_in};
 ghost use Rattle.lines.specs.Fields.{read_as};
 ghost use Rattle.lines.specs.Means.{expects, meant, means, ruled};
 
