@@ -1,7 +1,7 @@
 // The answers on a line. Their bytes and entries are parts of a buffer: nothing is copied but to the line.
 #![tactic(auto)]
 
-ghost use Rattle.std.specs.Prelude.{◌≡◌, length, nat_le, Some, None};
+ghost use Rattle.std.specs.Prelude.{◌≡◌, true, nat_le};
 ghost use Rattle.fills.specs.Fills.{Added, Wrote};
 ghost use Rattle.meaning.specs.Rooms.{Shown};
 ghost use Rattle.lines.specs.Calls.{line_of};
@@ -9,9 +9,11 @@ ghost use Rattle.lines.specs.Kinds.{Decodes};
 ghost use Rattle.lines.specs.Fits.{is_name};
 ghost use Rattle.lines.specs.Replies.{answer_in, entry, entry_in, got_in, list_in, no_in, num_in, reply_bytes, reply_in};
 ghost use Rattle.answers.specs.Kinds.{code_of};
-ghost use Rattle.answers.specs.Says.{fits, said, saying, says, shows};
+ghost use Rattle.answers.specs.Says.{fits, reply_of, said, saying, says, shows};
 
-use fills::{Field, append, write_line};
+use Kind::{Full, Got, List, No, Number, Yes};
+use fills::Field::{Content, Name, Plain, U8, U16, U64};
+use fills::{append, write_line};
 use lines::fields::{content_in, ended, head_in, name_in, number_in};
 use lines::items::{Item, are_many};
 use lines::kinds::Unknown;
@@ -36,12 +38,25 @@ pub enum Answer<'a> {
         length: u64,
         bytes: &'a [u8],
     },
-    // the entries as they stand on the line: Entry::first takes them off one by one
+    // the entries as they stand on the line: Entry::first takes them off one by one; their count stands beside them as
+    // it does on the line, since a type that keeps them so many would ask more of whoever makes an answer
     List {
         count: u16,
         entries: &'a [u8],
     },
     Full,
+}
+
+// What a call is answered that has nothing to tell but that it was done.
+impl From<Result<(), Refusal>> for Answer<'static> {
+    ghost from_gives = { λ said answer. says answer ≡ reply_of said × fits answer ≡ true };
+
+    fn from(said: Result<(), Refusal>) -> Answer<'static> {
+        match said {
+            Ok(()) => Answer::Yes,
+            Err(why) => Answer::No(why),
+        }
+    }
 }
 
 impl<'a> Item<'a> for Entry<'a> {
@@ -108,11 +123,7 @@ pub fn put_entry(shown: Entry<'_>, at: usize, out: &mut [u8]) -> Option<usize>
     ensures { Added (is_name shown.entry.key.now) at (entry (shows shown.entry)) out.old result out.new }
 {
     append(
-        &[
-            Field::Name(shown.key),
-            Field::U64(shown.number),
-            Field::U64(shown.length),
-        ],
+        &[Name(shown.key), U64(shown.number), U64(shown.length)],
         at,
         out,
     )
@@ -184,47 +195,23 @@ pub fn write_answer(tag: u32, answer: Answer<'_>, out: &mut [u8]) -> Option<usiz
     ensures { Wrote (fits answer.entry) (line_of tag (reply_bytes (says answer.entry))) out.old result out.new }
 {
     match answer {
-        Answer::No(refusal) => write_line(
-            tag,
-            &[Field::U8(Kind::No as u8), Field::U8(refusal.into())],
-            out,
-        ),
-        Answer::Yes => write_line(tag, &[Field::U8(Kind::Yes as u8)], out),
-        Answer::Number(number) => write_line(
-            tag,
-            &[Field::U8(Kind::Number as u8), Field::U64(number)],
-            out,
-        ),
+        Answer::No(refusal) => write_line(tag, &[U8(No as u8), U8(refusal.into())], out),
+        Answer::Yes => write_line(tag, &[U8(Yes as u8)], out),
+        Answer::Number(number) => write_line(tag, &[U8(Number as u8), U64(number)], out),
         Answer::Got {
             number,
             length,
             bytes,
         } => {
-            write_line(
-                tag,
-                &[
-                    Field::U8(Kind::Got as u8),
-                    Field::U64(number),
-                    Field::U64(length),
-                    Field::Content(bytes),
-                ],
-                out,
-            )
+            let fields = [U8(Got as u8), U64(number), U64(length), Content(bytes)];
+            write_line(tag, &fields, out)
         }
         Answer::List { count, entries } => {
             if !are_many::<Entry<'_>>(count, entries) {
                 return None;
             }
-            write_line(
-                tag,
-                &[
-                    Field::U8(Kind::List as u8),
-                    Field::U16(count),
-                    Field::Plain(entries),
-                ],
-                out,
-            )
+            write_line(tag, &[U8(List as u8), U16(count), Plain(entries)], out)
         }
-        Answer::Full => write_line(tag, &[Field::U8(Kind::Full as u8)], out),
+        Answer::Full => write_line(tag, &[U8(Full as u8)], out),
     }
 }

@@ -12,7 +12,10 @@ use fills::Field::{Content, Expects, Flag, Name, Plain, U8, U16, U32, U64};
 use fills::write_line;
 use lines::calls::{Call, Rule};
 use lines::items::are_many;
-use lines::kinds::Kind;
+use lines::kinds::Kind::{
+    Abort, Begin, Complete, DropRoom, Get, Hold, Look, MakeRoom, Part, Put, Remove, Rules, Time,
+    Versions,
+};
 
 // One match over all fourteen calls would be longer than a function may be, so each sort of call has its own.
 
@@ -23,17 +26,17 @@ fn write_room(tag: u32, call: Call<'_>, out: &mut [u8]) -> Option<usize>
     match call {
         Call::MakeRoom { name, keeps } => write_line(
             tag,
-            &[U8(Kind::MakeRoom as u8), Name(name), Flag(keeps)],
+            &[U8(MakeRoom as u8), Name(name), Flag(keeps)],
             out,
         ),
-        Call::DropRoom { name } => write_line(tag, &[U8(Kind::DropRoom as u8), Name(name)], out),
+        Call::DropRoom { name } => write_line(tag, &[U8(DropRoom as u8), Name(name)], out),
         Call::Rules { room, count, rules } => {
             if !are_many::<Rule<'_>>(u16::from(count), rules) {
                 return None;
             }
             write_line(
                 tag,
-                &[U8(Kind::Rules as u8), Name(room), U8(count), Plain(rules)],
+                &[U8(Rules as u8), Name(room), U8(count), Plain(rules)],
                 out,
             )
         }
@@ -53,7 +56,7 @@ fn write_change(tag: u32, call: Call<'_>, out: &mut [u8]) -> Option<usize>
             bytes,
         } => {
             let fields = [
-                U8(Kind::Put as u8),
+                U8(Put as u8),
                 Name(room),
                 Name(key),
                 Expects(expected),
@@ -62,7 +65,7 @@ fn write_change(tag: u32, call: Call<'_>, out: &mut [u8]) -> Option<usize>
             write_line(tag, &fields, out)
         }
         Call::Remove { room, key, number } => {
-            let fields = [U8(Kind::Remove as u8), Name(room), Name(key), U64(number)];
+            let fields = [U8(Remove as u8), Name(room), Name(key), U64(number)];
             write_line(tag, &fields, out)
         }
         Call::Hold {
@@ -71,13 +74,8 @@ fn write_change(tag: u32, call: Call<'_>, out: &mut [u8]) -> Option<usize>
             number,
             until,
         } => {
-            let fields = [
-                U8(Kind::Hold as u8),
-                Name(room),
-                Name(key),
-                U64(number),
-                U64(until),
-            ];
+            let kind = U8(Hold as u8);
+            let fields = [kind, Name(room), Name(key), U64(number), U64(until)];
             write_line(tag, &fields, out)
         }
         _ => None,
@@ -97,7 +95,7 @@ fn write_read(tag: u32, call: Call<'_>, out: &mut [u8]) -> Option<usize>
             most,
         } => {
             let fields = [
-                U8(Kind::Get as u8),
+                U8(Get as u8),
                 Name(room),
                 Name(key),
                 U64(number),
@@ -112,18 +110,13 @@ fn write_read(tag: u32, call: Call<'_>, out: &mut [u8]) -> Option<usize>
             after,
             most,
         } => {
-            let fields = [
-                U8(Kind::Look as u8),
-                Name(room),
-                Name(beginning),
-                Name(after),
-                U16(most),
-            ];
+            let kind = U8(Look as u8);
+            let fields = [kind, Name(room), Name(beginning), Name(after), U16(most)];
             write_line(tag, &fields, out)
         }
         Call::Versions { room, key } => write_line(
             tag,
-            &[U8(Kind::Versions as u8), Name(room), Name(key)],
+            &[U8(Versions as u8), Name(room), Name(key)],
             out,
         ),
         _ => None,
@@ -137,7 +130,7 @@ fn write_upload(tag: u32, call: Call<'_>, out: &mut [u8]) -> Option<usize>
     match call {
         Call::Begin { room, key } => write_line(
             tag,
-            &[U8(Kind::Begin as u8), Name(room), Name(key)],
+            &[U8(Begin as u8), Name(room), Name(key)],
             out,
         ),
         Call::Part {
@@ -146,13 +139,8 @@ fn write_upload(tag: u32, call: Call<'_>, out: &mut [u8]) -> Option<usize>
             place,
             bytes,
         } => {
-            let fields = [
-                U8(Kind::Part as u8),
-                Name(room),
-                U64(upload),
-                U16(place),
-                Content(bytes),
-            ];
+            let kind = U8(Part as u8);
+            let fields = [kind, Name(room), U64(upload), U16(place), Content(bytes)];
             write_line(tag, &fields, out)
         }
         Call::Complete {
@@ -160,25 +148,21 @@ fn write_upload(tag: u32, call: Call<'_>, out: &mut [u8]) -> Option<usize>
             upload,
             expected,
         } => {
-            let fields = [
-                U8(Kind::Complete as u8),
-                Name(room),
-                U64(upload),
-                Expects(expected),
-            ];
+            let kind = U8(Complete as u8);
+            let fields = [kind, Name(room), U64(upload), Expects(expected)];
             write_line(tag, &fields, out)
         }
         Call::Abort { room, upload } => write_line(
             tag,
-            &[U8(Kind::Abort as u8), Name(room), U64(upload)],
+            &[U8(Abort as u8), Name(room), U64(upload)],
             out,
         ),
         _ => None,
     }
 }
 
-// Writes the call to the front of `out` and says how much of it that took, as `Read::read` does, or leaves `out`
-// alone: where there is too little room, or no line can hold it.
+// Writes the call to the front of `out` and says how long it is, or leaves `out` alone: where there is too little room,
+// or no line can hold it.
 pub fn write_call(tag: u32, call: Call<'_>, out: &mut [u8]) -> Option<usize>
     ensures { Wrote (fits call.entry) (line_of tag (call_bytes (means call.entry))) out.old result out.new }
 {
@@ -190,7 +174,7 @@ pub fn write_call(tag: u32, call: Call<'_>, out: &mut [u8]) -> Option<usize>
         Call::Get { .. } | Call::Look { .. } | Call::Versions { .. } => write_read(tag, call, out),
         Call::Begin { .. } | Call::Part { .. } | Call::Complete { .. } | Call::Abort { .. } =>
             write_upload(tag, call, out),
-        Call::Time { ms } => write_line(tag, &[U8(Kind::Time as u8), U64(ms)], out),
+        Call::Time { ms } => write_line(tag, &[U8(Time as u8), U64(ms)], out),
     }
 }
 

@@ -91,6 +91,7 @@ impl Writer<'_> {
             Field::U32(n) => self.put_u32(n),
             Field::U64(n) => self.put(&n.to_be_bytes()),
             Field::Flag(on) => self.put(&[u8::from(on)]),
+            // 0, 1 and 2 are the line's; only this and their reader in crate lines name them
             Field::Expects(Expected::Any) => self.put(&[0]),
             Field::Expects(Expected::Absent) => self.put(&[1]),
             Field::Expects(Expected::Is(number)) => {
@@ -120,7 +121,8 @@ impl Writer<'_> {
     }
 }
 
-// Writes a line to the front of `out` and says how much of it that took, as `Read::read` does, or leaves `out` alone.
+// Writes a line to the front of `out` and says how long it is, or leaves `out` alone. None says only that nothing was
+// written, which is all that callers act on.
 pub fn write_line(tag: u32, fields: &[Field<'_>], out: &mut [u8]) -> Option<usize>
     ensures { Wrote (line_fits fields.now) (line_of tag (body_bytes fields.now)) out.old result out.new }
 {

@@ -1,15 +1,13 @@
 // The front of a house: lines of bytes come in, and go out. It is the clock over whatever keeps a payload.
 #![tactic(auto)]
 
-ghost use Rattle.std.specs.Prelude.{◌≡◌, ℕ, true};
-ghost use Rattle.drives.specs.Drives.{Drives};
+ghost use Rattle.std.specs.Prelude.{◌≡◌};
 ghost use Rattle.driver.specs.Known.{WhereKnown};
 ghost use Rattle.driver.specs.Loops.{Leaves};
-ghost use Rattle.clock.specs.Spelled.{asked_in, reply_of, told_bytes};
-ghost use Rattle.answers.specs.Says.{says, fits};
+ghost use Rattle.clock.specs.Spelled.{asked_in, told_bytes};
 ghost use Rattle.front.specs.Fronts.{held_in, house_over, Answered, LineDone};
 
-use answers::{Answer, write_answer};
+use answers::write_answer;
 use clock::{Asked, Clock, Told};
 use driver::{Disks, Running};
 use lines::calls::Call;
@@ -33,24 +31,12 @@ fn hear(line: &[u8], longest: usize, time: u64) -> Asked
     }
 }
 
-// No `From`: both types are other crates'.
-fn answer_of(said: Result<(), Refusal>) -> Answer<'static>
-    ensures says { says result ≡ reply_of said }
-    ensures fits { fits result ≡ true }
-{
-    match said {
-        Ok(()) => Answer::Yes,
-        Err(why) => Answer::No(why),
-    }
-}
-
 // Writes the answer to the front of `out`, and says how long it is; nothing, where there is no room for it.
-#[tactic(auto, unfolding(clock::specs::Spelled::told_bytes))]
+#[tactic(auto, using(crate::proofs::Spelt::spelt_alike), unfolding(clock::specs::Spelled::told_bytes))]
 fn write_told(told: Told, out: &mut [u8]) -> Option<usize>
     ensures { Answered (told_bytes told) out.old result out.new }
 {
-    let answer = answer_of(told.said);
-    write_answer(told.tag, answer, out)
+    write_answer(told.tag, told.said.into(), out)
 }
 
 // How many requests are enough for whatever the house is asked.

@@ -1,7 +1,7 @@
 // A call on a line. Its names, keys and bytes are parts of the line: nothing is copied.
-ghost use Rattle.std.specs.Prelude.{◌≡◌, true, false, cond, Some, None};
+ghost use Rattle.std.specs.Prelude.{◌≡◌};
 ghost use Rattle.meaning.specs.Rooms as meaning;
-ghost use Rattle.lines.specs.Calls.{abort_in, at_end, begin_in, call_in, complete_in, drop_room_in, expected_in, get_in, hold_in, look_in, make_room_in, part_in, put_in, remove_in, rule_in, rules_in, time_in, versions_in};
+ghost use Rattle.lines.specs.Calls.{abort_in, begin_in, call_in, complete_in, drop_room_in, expected_in, get_in, hold_in, look_in, make_room_in, part_in, put_in, remove_in, rule_in, rules_in, time_in, versions_in};
 ghost use Rattle.lines.specs.Fields.{read_as};
 ghost use Rattle.lines.specs.Means.{expects, meant, means, ruled};
 
@@ -17,7 +17,8 @@ pub enum Expected {
     Is(u64),
 }
 
-// What begins so goes after that many ms, an older version after that many since the next came; 0 for never.
+// What begins so goes after that many ms, an older version after that many since the next came; 0 for never, as the
+// line and docs/MEANING.md have it.
 #[derive(Clone, Copy)]
 pub struct Rule<'a> {
     pub beginning: &'a [u8],
@@ -25,6 +26,7 @@ pub struct Rule<'a> {
     pub older_last: u64,
 }
 
+// To get or remove number 0 is to get or remove the latest version, as the line and docs/MEANING.md have it.
 #[derive(Clone, Copy)]
 pub enum Call<'a> {
     MakeRoom {
@@ -87,7 +89,8 @@ pub enum Call<'a> {
         number: u64,
         until: u64,
     },
-    // The rules as they stand on the line: Rule::first takes them off one by one.
+    // The rules as they stand on the line: Rule::first takes them off one by one. Their count stands beside them as it
+    // does on the line: a type that keeps them so many would ask more of whoever makes a call.
     Rules {
         room: &'a [u8],
         count: u8,
@@ -98,6 +101,8 @@ pub enum Call<'a> {
     },
 }
 
+// 0, 1 and 2 are the line's. Only this and the writer in crate fills name them: an enum for them would be turned into
+// an Expected right away, and be no plainer.
 fn expected_in(bytes: &[u8]) -> Option<(Expected, &[u8])>
     ensures { read_as expects result ≡ expected_in bytes.now }
 {
@@ -118,12 +123,13 @@ fn make_room(fields: &[u8]) -> Option<Call<'_>>
     ensures { meant result ≡ make_room_in fields.now }
 {
     let (name, rest) = name_in(fields)?;
-    let (keeps, rest) = number_in::<u8>(rest)?;
-    match keeps {
-        0 => ended(rest, Call::MakeRoom { name, keeps: false }),
-        1 => ended(rest, Call::MakeRoom { name, keeps: true }),
-        _ => None,
-    }
+    let (flag, rest) = number_in::<u8>(rest)?;
+    let keeps = match flag {
+        0 => false,
+        1 => true,
+        _ => return None,
+    };
+    ended(rest, Call::MakeRoom { name, keeps })
 }
 
 fn drop_room(fields: &[u8]) -> Option<Call<'_>>

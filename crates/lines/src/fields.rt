@@ -21,6 +21,8 @@ pub trait Number: Copy {
         ensures { result ≡ amount self };
 }
 
+// One text four times over, but for the type and its width: no macro may write an impl here.
+
 impl Number for u8 {
     ghost WIDTH = { 1 };
 
@@ -126,6 +128,7 @@ pub fn ended<T: Drop>(rest: &[u8], value: T) -> Option<T>
 #[derive(Clone, Copy)]
 pub struct Head {
     pub tag: u32,
+    // a byte still: calls have kinds of their own, and answers too
     pub kind: u8,
 }
 
