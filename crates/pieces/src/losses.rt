@@ -12,6 +12,7 @@ pub(crate) fn fill_lost(wanted: usize, other: usize, four: &Four, out: &mut [u8]
     requires lost { (wanted < 6) × ((other < 6) × (wanted ≢ other)) }
     ensures { out.new ≡ blended (lost_row wanted other) four.now }
 {
+    // This is the table `lost_row` of crate field: 4 is P and 5 is Q. `_` stands for the last place that is left, and the order of the arms matters.
     match (wanted, other) {
         (_, 5) => four.blend::<1, 1, 1, 1>(out),
         (5, 0) => four.blend::<3, 5, 9, 1>(out),
