@@ -27,8 +27,8 @@ pub(crate) fn doubled_byte(x: u8) -> u8
     DOUBLES[x as usize]
 }
 
-// An element of Q. A trait for both bytes and vectors would make this and `weighted` one. But its laws can't say that a u8 is below 256, so a struct
-// of four blocks has to keep that: eighteen functions in place of these fifteen, which is no plainer.
+// An element of Q, as `weighted` of vectors. One trait of bytes and vectors was tried for both: its laws can't say that a byte is below 256, so every
+// proof had to carry that, and it came to more functions than these.
 #[tactic(auto, using(field::proofs::Horner::q_is))]
 pub(crate) fn weighted_byte(w: u8, x: u8, y: u8, z: u8) -> u8
     ensures { result ≡ dot (generator 5) w x y z }
@@ -41,8 +41,8 @@ pub(crate) fn product(c: u8, x: u8) -> u8
     ensures { result ≡ times c x }
 {
     let mut sum = 0u8;
-    for k in 0..8u32 {
-        let bit = (c >> (7 - k)) % 2;
+    for k in (0..8u32).rev() {
+        let bit = (c >> k) % 2;
         sum = doubled_byte(sum) ^ (bit * x);
     }
     sum

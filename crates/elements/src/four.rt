@@ -1,8 +1,10 @@
-// Four pieces of one length.
+// Four pieces of one length, and what is told where they are not.
 ghost use Rattle.std.specs.Prelude.{◌≡◌, length};
 ghost use Rattle.elements.specs.Bytes.{AreBytes};
 
-// Four pieces of one length.
+use std::error::Error;
+use std::fmt;
+
 #[derive(Clone, Copy)]
 pub struct Four<'a> {
     pub w: &'a [u8],
@@ -11,13 +13,21 @@ pub struct Four<'a> {
     pub z: &'a [u8],
     pub ghost same_length: { (length x.now ≡ length w.now) × ((length y.now ≡ length w.now) × (length z.now ≡ length w.now)) },
 
-    // As their types say: proofs read it here.
+    // The slices' type says so already, but a lemma about any `Four` knows of it only what its ghost fields say.
     pub ghost bytes: { AreBytes w.now × (AreBytes x.now × (AreBytes y.now × AreBytes z.now)) },
 }
 
 // The lengths of pieces are not all the same.
 #[derive(Clone, Copy, Debug, PartialEq, Eq)]
 pub struct UnequalLengths;
+
+impl fmt::Display for UnequalLengths {
+    fn fmt<W: fmt::Write>(&self, f: &mut fmt::Formatter<W>) -> fmt::Result {
+        f.write_str("the pieces are not of one length")
+    }
+}
+
+impl Error for UnequalLengths {}
 
 impl<'a> Four<'a> {
     ghost use Rattle.std.specs.Prelude.{[], ◌∷◌, is_ok, IfOk};

@@ -9,7 +9,7 @@ use crate::lanes::{WIDTH, load, store, summed, weighted};
 
 // The parities of as many whole vectors as there are.
 pub(crate) fn encode_vectors(four: &Four, p: &mut [u8], q: &mut [u8])
-    requires p_len { (length p.old ≡ length four.now.w.now) × (length q.old ≡ length four.now.w.now) }
+    requires lengths { (length p.old ≡ length four.now.w.now) × (length q.old ≡ length four.now.w.now) }
     ensures p { take (length four.now.w.now / 32 * 32) p.new ≡ take (length four.now.w.now / 32 * 32) (blended (generator 4) four.now) }
     ensures q { take (length four.now.w.now / 32 * 32) q.new ≡ take (length four.now.w.now / 32 * 32) (blended (generator 5) four.now) }
 {
@@ -28,7 +28,8 @@ pub(crate) fn encode_vectors(four: &Four, p: &mut [u8], q: &mut [u8])
 
 // The parities from a place on, where those before it stand.
 pub(crate) fn encode_bytes(four: &Four, p: &mut [u8], q: &mut [u8], from: usize)
-    requires p_len { (length p.old ≡ length four.now.w.now) × ((length q.old ≡ length four.now.w.now) × (from ≤ length four.now.w.now)) }
+    requires lengths { (length p.old ≡ length four.now.w.now) × (length q.old ≡ length four.now.w.now) }
+    requires from_within { from ≤ length four.now.w.now }
     requires p { take from p.old ≡ take from (blended (generator 4) four.now) }
     requires q { take from q.old ≡ take from (blended (generator 5) four.now) }
     ensures p { p.new ≡ blended (generator 4) four.now }

@@ -8,7 +8,8 @@ use crate::four::Four;
 use crate::lanes;
 use crate::lanes::{WIDTH, load, store};
 
-// The sums of as many whole vectors as there are.
+// The sums of as many whole vectors as there are. That `out` is as long as the four is a clause here and below, and no type holds it: it is lent by
+// itself and written to, so a struct of both would be made, and checked, at each call.
 fn blend_vectors<const A: u8, const B: u8, const C: u8, const D: u8>(four: &Four, out: &mut [u8])
     requires { length out.old ≡ length four.now.w.now }
     ensures { take (length four.now.w.now / 32 * 32) out.new ≡ take (length four.now.w.now / 32 * 32) (blended (row A B C D) four.now) }
@@ -31,8 +32,9 @@ fn blend_bytes<const A: u8, const B: u8, const C: u8, const D: u8>(
     out: &mut [u8],
     from: usize,
 )
-    requires len { (length out.old ≡ length four.now.w.now) × (from ≤ length four.now.w.now) }
-    requires out_value { take from out.old ≡ take from (blended (row A B C D) four.now) }
+    requires length { length out.old ≡ length four.now.w.now }
+    requires from_within { from ≤ length four.now.w.now }
+    requires out_before { take from out.old ≡ take from (blended (row A B C D) four.now) }
     ensures { out.new ≡ blended (row A B C D) four.now }
 {
     let Four { w, x, y, z } = *four;

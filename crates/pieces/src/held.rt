@@ -1,10 +1,13 @@
-// A piece that is at hand, and what is refused.
+// What is handed in, and how it is refused.
 ghost use Rattle.std.specs.Prelude.{◌≡◌};
 ghost use Rattle.pieces.specs.declared.held.Refused.TheVariants.{Lengths};
 
 use elements::UnequalLengths;
+use std::error::Error;
+use std::fmt;
 
-// A piece that is at hand, and its place in the stripe: 0 to 3 for data, 4 for P, 5 for Q.
+// A piece that is at hand, and its place in the stripe: 0 to 3 for data, 4 for P, 5 for Q. A number and no enum, since any number may be given, and one
+// above 5 is refused.
 #[derive(Clone, Copy)]
 pub struct Held<'a> {
     pub place: usize,
@@ -20,6 +23,18 @@ pub enum Refused {
     // Pieces are not of one length.
     Lengths,
 }
+
+impl fmt::Display for Refused {
+    fn fmt<W: fmt::Write>(&self, f: &mut fmt::Formatter<W>) -> fmt::Result {
+        f.write_str(match self {
+            Self::Places => "the places of the pieces do not rise, or one is above 5",
+            Self::NoSuchPlace => "the place that is wanted is above 5",
+            Self::Lengths => "the pieces are not of one length",
+        })
+    }
+}
+
+impl Error for Refused {}
 
 impl From<UnequalLengths> for Refused {
     ghost from_gives = { λ _ e. e ≡ Lengths };

@@ -6,12 +6,13 @@ ghost use Rattle.field.specs.Stripe.{lost_row};
 use elements::Four;
 
 // The piece at a place, where it and another are lost, of the other four.
-#[tactic(auto, using(crate::proofs::LostRows::sum_row), unfolding(field::specs::Stripe::lost_row, field::specs::Stripe::inverse, field::specs::Field::dot, field::specs::Field::times, field::specs::Field::by, field::specs::Field::double))]
+#[tactic(auto, using(crate::proofs::LostRows::sum_row, crate::proofs::LostRows::rows_of_first, crate::proofs::LostRows::rows_of_second, crate::proofs::LostRows::rows_of_third, crate::proofs::LostRows::rows_of_fourth, crate::proofs::LostRows::rows_of_p, crate::proofs::LostRows::rows_of_q))]
 pub(crate) fn fill_lost(wanted: usize, other: usize, four: &Four, out: &mut [u8])
     requires out_len { length out.old ≡ length four.now.w.now }
     requires lost { (wanted < 6) × ((other < 6) × (wanted ≢ other)) }
     ensures { out.new ≡ blended (lost_row wanted other) four.now }
 {
+    // This is the table `lost_row` of crate field: 4 is P and 5 is Q. `_` stands for the last place that is left, and the order of the arms matters.
     match (wanted, other) {
         (_, 5) => four.blend::<1, 1, 1, 1>(out),
         (5, 0) => four.blend::<3, 5, 9, 1>(out),

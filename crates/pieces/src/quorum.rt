@@ -73,30 +73,31 @@ impl<'a> Quorum<'a> {
         }
     }
 
-    // The data where two pieces of it are lost: the second of these by its coefficients, and the first as the sum of all but Q.
+    // The data where two pieces of it are lost. `held_p` and `held_q` get the two that are held, and `lost_i` and `lost_j` the two that are lost, at the
+    // places i and j: that at j by its coefficients, and that at i as the sum of all but Q.
     fn two_lost(
         &self,
-        k: &mut [u8],
-        l: &mut [u8],
-        first: usize,
-        one: &mut [u8],
-        second: usize,
-        two: &mut [u8],
+        held_p: &mut [u8],
+        held_q: &mut [u8],
+        i: usize,
+        lost_i: &mut [u8],
+        j: usize,
+        lost_j: &mut [u8],
     )
-        requires k_len { (length k.old ≡ length self.now.pieces.w.now) × ((length l.old ≡ length self.now.pieces.w.now) × ((length one.old ≡ length self.now.pieces.w.now) × (length two.old ≡ length self.now.pieces.w.now))) }
-        requires both_parities { (self.now.r ≡ 4) × ((first < second) × (second < 4)) }
-        requires others_lost { (first ≢ self.now.p) × ((first ≢ self.now.q) × ((second ≢ self.now.p) × (second ≢ self.now.q))) }
-        ensures k { k.new ≡ rebuilt (held_by self.now) self.now.p }
-        ensures l { l.new ≡ rebuilt (held_by self.now) self.now.q }
-        ensures one { one.new ≡ rebuilt (held_by self.now) first }
-        ensures two { two.new ≡ rebuilt (held_by self.now) second }
+        requires lengths { (length held_p.old ≡ length self.now.pieces.w.now) × ((length held_q.old ≡ length self.now.pieces.w.now) × ((length lost_i.old ≡ length self.now.pieces.w.now) × (length lost_j.old ≡ length self.now.pieces.w.now))) }
+        requires both_parities { (self.now.r ≡ 4) × ((i < j) × (j < 4)) }
+        requires others_lost { (i ≢ self.now.p) × ((i ≢ self.now.q) × ((j ≢ self.now.p) × (j ≢ self.now.q))) }
+        ensures held_p { held_p.new ≡ rebuilt (held_by self.now) self.now.p }
+        ensures held_q { held_q.new ≡ rebuilt (held_by self.now) self.now.q }
+        ensures lost_i { lost_i.new ≡ rebuilt (held_by self.now) i }
+        ensures lost_j { lost_j.new ≡ rebuilt (held_by self.now) j }
     {
         let Four { w, x, y, .. } = self.pieces;
-        k.copy_from_slice(w);
-        l.copy_from_slice(x);
-        fill_lost(second, first, &self.pieces, two);
-        let but_q = Four { w, x, y, z: two };
-        but_q.blend::<1, 1, 1, 1>(one);
+        held_p.copy_from_slice(w);
+        held_q.copy_from_slice(x);
+        fill_lost(j, i, &self.pieces, lost_j);
+        let but_q = Four { w, x, y, z: lost_j };
+        but_q.blend::<1, 1, 1, 1>(lost_i);
     }
 
     // The four data pieces.

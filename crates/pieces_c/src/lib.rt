@@ -1,4 +1,5 @@
-// `pieces` for programs in C and Rust that link it: `rt lib` in crates/pieces_c. A slice is a pointer and a length there.
+// `pieces` for programs in C and Rust that link it: `rt lib` in crates/pieces_c. A slice is a pointer and a length there,
+// and whether it was done is a bool, as C has no Result.
 #![tactic(auto)]
 
 ghost use Rattle.std.specs.Prelude.{nat_lt, length, ◌&&◌, [], ◌∷◌, ◌≡◌, if◌then◌else◌};

@@ -5,6 +5,7 @@ ghost use Rattle.std.specs.Prelude.{◌≡◌, false, map, slice_index_or};
 ghost use Rattle.labels.specs.Times.{trusts};
 ghost use Rattle.steps.specs.declared.Lent.{Lent};
 ghost use Rattle.recorder.specs.Recording.{lowest_in, gets_at_first, noted, decided, goes, read_all, read_on, write_on, sync_on, fresh, budget, recorder_code, recorded, RecorderSame, RecorderStands};
+ghost use Rattle.recorder.specs.declared.Phase.TheVariants.{Writing};
 ghost use Rattle.recorder.specs.Tied.{recorder_tied};
 
 use labels::{Label, read_label, write_label};
@@ -36,6 +37,15 @@ pub enum Phase {
     Writing { left: u8, gets: [bool; 6] },
     Syncing { left: u8 },
     Over,
+}
+
+impl Phase {
+    // The record is to be written to these drives.
+    fn writing(gets: [bool; 6]) -> Phase
+        ensures { result ≡ Writing 6 gets.entry }
+    {
+        Phase::Writing { left: 6, gets }
+    }
 }
 
 #[derive(Clone, Copy)]
@@ -107,22 +117,18 @@ impl Recorder {
     fn decide(&mut self, drives: Drives)
         ensures { self.new ≡ decided self.old.task drives self.old }
     {
-        let gets = match self.task {
+        self.phase = match self.task {
             Task::Opens => {
                 self.current = drives.lowest();
-                drives.get_at_first(self.current)
+                Phase::writing(drives.get_at_first(self.current))
             }
             Task::Sets(p) => {
                 self.current = Some(p);
-                drives.trusted()
+                Phase::writing(drives.trusted())
             }
-            Task::Mends => plan_stretch(drives.seen).fills,
-            Task::Gets => {
-                self.phase = Phase::Over;
-                return;
-            }
+            Task::Mends => Phase::writing(plan_stretch(drives.seen).fills),
+            Task::Gets => Phase::Over,
         };
-        self.phase = Phase::Writing { left: 6, gets };
     }
 
     // Reads the labels, all of them: whatever was seen before, a drive may have been replaced since.

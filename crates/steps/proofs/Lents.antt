@@ -1,6 +1,6 @@
 -- What lent memory holds after a sector was put there.
 -- Assumes nothing.
-use Rattle.std.proofs.Common.{◌≡◌, ℕ, ◌+◌, ◌-◌, ◌≤◌, min, Bool, true, false, cond, eqb, List, ◌++◌, length, take, drop, sym, refl, ap, ◌∙◌, arith, length-append, length-drop, length-take-le, take-take, drop-drop, take_at, drop_at, eq-eqb, eqb-true}
+use Rattle.std.proofs.Common.{◌≡◌, ℕ, ◌+◌, ◌-◌, ◌≤◌, min, Bool, true, false, cond, eqb, List, ◌++◌, length, take, drop, sym, refl, ap, ◌∙◌, arith, length-drop, length-take-le, take-take, drop-drop, take_at, drop_at, eq-eqb, eqb-true}
 use lib.ListN.{length-replicate}
 use lib.Seq.{take-append-le, drop-append-le, drop-append-add}
 use Rattle.std.proofs.lemmas.List.{drop-take}

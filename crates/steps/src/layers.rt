@@ -97,15 +97,16 @@ impl<U: Planner<Call = L::Call, Reply = L::Reply>, L: Stepper> Stepper for Stack
 
     fn step(&mut self, lent: &mut Lent, got: &[u8]) -> Ask {
         // the layer has its turn once the machine below is done
-        if self.doing != Doing::Begun {
-            let ask = self.lower.step(lent, got);
-            if ask != Ask::Done || self.doing == Doing::Mends {
-                return ask;
-            }
+        let ask = match self.doing {
+            Doing::Begun => Ask::Done,
+            Doing::Opens | Doing::Waits | Doing::Mends => self.lower.step(lent, got),
+        };
+        if ask != Ask::Done || self.doing == Doing::Mends {
+            return ask;
         }
         let reply = match self.doing {
             Doing::Waits => Some(self.lower.reply()),
-            _ => None,
+            Doing::Opens | Doing::Begun | Doing::Mends => None,
         };
         self.doing = Doing::Waits;
         match self.upper.turn(reply) {

@@ -8,8 +8,8 @@ pub returns : goal.returns
 returns c =
     let h = c.args.self.now in
     let four = rising_four h in
-    let i = c.args.first in
-    let j = c.args.second in
+    let i = c.args.i in
+    let j = c.args.j in
     let hi : i < 4 = omega arith in
     let hj : j < 4 = omega arith in
     let ij : i ≢ j = omega arith in
@@ -20,10 +20,10 @@ returns c =
     let jq : j ≢ h.q = omega arith in
     let r4 : h.r ≡ 4 = omega arith in
     record {
-      k = c.copy_from_slice.ensures.after ∙ is_first four _ refl;
-      l = c.copy_from_slice-2.ensures.after ∙ is_second four _ refl;
-      one =
+      held_p = c.copy_from_slice.ensures.after ∙ is_first four _ refl;
+      held_q = c.copy_from_slice-2.ensures.after ∙ is_second four _ refl;
+      lost_i =
           c.blend.ensures ∙ ap (map4 (dot (generator 4)) h.pieces.w.now h.pieces.x.now h.pieces.y.now) c.fill_lost.ensures
           ∙ is_other_lost four i j hi hj ij ip iq jp jq r4;
-      two = c.fill_lost.ensures ∙ is_one_lost four j i hj hi ji jp jq ip iq r4;
+      lost_j = c.fill_lost.ensures ∙ is_one_lost four j i hj hi ji jp jq ip iq r4;
     }
