@@ -1,12 +1,11 @@
 -- What the code's answers say, whose bytes are parts of a line.
 -- Assumes nothing.
-use Rattle.std.specs.Prelude.{ℕ, ◌+◌, Bool, true, ◌&&◌, length, Ok, Err, Option, Result, nat_lt}
+use Rattle.std.specs.Prelude.{ℕ, ◌+◌, Bool, true, ◌&&◌, length, Option, nat_lt}
 use Rattle.std.specs.Option.{option_map}
 use Rattle.meaning.specs.Rooms as meaning
 use Rattle.lines.specs.Calls.{are_many, all_in}
 use Rattle.lines.specs.Replies.{entry_in, reply_bytes, Tagged}
 use Rattle.lines.specs.Turns.{number_of}
-use Rattle.lines.specs.declared.order.Refusal.{Refusal}
 use Rattle.answers.specs.declared.Entry.{Entry}
 use Rattle.answers.specs.declared.Answer.{Answer}
 use Rattle.answers.specs.declared.Answer.TheVariants.{No, Yes, Number, Got, List as Listing, Full}
@@ -21,11 +20,6 @@ says (Number n) = meaning.Num n
 says (Got n size bs) = meaning.Got n size bs.now
 says (Listing count es) = meaning.List' (all_in entry_in count es.now)
 says Full = meaning.Full
-
--- the reply to a call that has nothing to tell but that it was done
-abbrev pub reply_of : Result Unit Refusal → meaning.Reply
-reply_of (Ok ok) = meaning.Yes
-reply_of (Err why) = meaning.No (number_of why)
 
 -- a list's entries are as many as it says
 abbrev pub sound : Answer → Bool

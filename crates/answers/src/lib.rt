@@ -9,7 +9,8 @@ ghost use Rattle.lines.specs.Kinds.{Decodes};
 ghost use Rattle.lines.specs.Fits.{is_name};
 ghost use Rattle.lines.specs.Replies.{answer_in, entry, entry_in, got_in, list_in, no_in, num_in, reply_bytes, reply_in};
 ghost use Rattle.answers.specs.Kinds.{code_of};
-ghost use Rattle.answers.specs.Says.{fits, reply_of, said, saying, says, shows};
+ghost use Rattle.lines.specs.Turns.{reply_of};
+ghost use Rattle.answers.specs.Says.{fits, said, saying, says, shows};
 
 use Kind::{Full, Got, List, No, Number, Yes};
 use fills::Field::{Content, Name, Plain, U8, U16, U64};

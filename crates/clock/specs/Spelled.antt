@@ -11,7 +11,7 @@ use Rattle.lines.specs.declared.order.Refusal.{Refusal}
 use Rattle.lines.specs.declared.order.Refusal.TheVariants.{Wrong, Missing, Exists, Unexpected, NotEmpty, Held, Gap, UsedUp, NoTime, NotBuilt}
 use Rattle.lines.specs.Order.{only_time, heard, tag_of}
 use Rattle.lines.specs.Calls.{line_of}
-use Rattle.lines.specs.Turns.{number_of}
+use Rattle.lines.specs.Turns.{reply_of}
 use Rattle.lines.specs.Replies.{reply_bytes}
 use Rattle.promise.specs.Promise.{house}
 use Rattle.clock.specs.declared.Asked.{Asked}
@@ -37,10 +37,6 @@ heard_as (Ok c) = heard_call c
 -- no number was given yet, so the next is 1
 abbrev pub asked_in : (longest : ℕ) → List ℕ → (time : ℕ) → Asked
 asked_in longest l time = record { tag = tag_of l; heard = heard_as (heard only_time longest l time 1) }
-
-abbrev pub reply_of : Result Unit Refusal → meaning.Reply
-reply_of (Err why) = meaning.No (number_of why)
-reply_of (Ok ok) = meaning.Yes
 
 unfoldable pub told_bytes : Told → List ℕ
 told_bytes x = line_of x.tag (reply_bytes (reply_of x.said))

@@ -31,3 +31,8 @@ built_by All = order.all
 abbrev pub taken : Result Call Refusal → Result meaning.Call ℕ
 taken (Ok c) = Ok (means c)
 taken (Err e) = Err (number_of e)
+
+-- the reply to a call that has nothing to tell but that it was done
+abbrev pub reply_of : Result Unit Refusal → meaning.Reply
+reply_of (Ok ok) = meaning.Yes
+reply_of (Err why) = meaning.No (number_of why)
