@@ -1,5 +1,5 @@
 // Single field elements, for what is left of a piece after its whole vectors.
-ghost use Rattle.std.specs.Prelude.{◌≡◌, ◌+◌, ◌-◌, ◌*◌, ◌/◌, ◌%◌, ◌^◌, ◌<◌, ◌≤◌};
+ghost use Rattle.std.specs.Prelude.{◌≡◌};
 ghost use Rattle.field.specs.Field.{double, dot, times};
 ghost use Rattle.field.specs.Stripe.{generator};
 

@@ -16,7 +16,7 @@ sum_row (suc (suc (suc zero))) h = refl
 sum_row (suc (suc (suc (suc zero)))) h = refl
 sum_row (suc (suc (suc (suc (suc t))))) h = absurd (omega arith)
 
--- with another lost than Q: worked out here, since `fill_lost` took seven times as long to unfold them itself
+-- with another lost than Q: worked out here, since `fill_lost` took several times as long to unfold them itself
 pub rows_of_first : (lost_row 0 1 ≡ row 2 6 245 244) × ((lost_row 0 2 ≡ row 245 247 166 167) × ((lost_row 0 3 ≡ row 187 210 156 157) × (lost_row 0 4 ≡ row 2 4 8 1)))
 unfolding lost_row inverse dot times by double
 rows_of_first = (refl, (refl, (refl, refl)))

@@ -42,7 +42,7 @@ pub enum Phase {
 impl Phase {
     // The record is to be written to these drives.
     fn writing(gets: [bool; 6]) -> Phase
-        ensures { result ≡ Writing 6 gets.entry }
+        ensures { result ≡ Writing 6 gets }
     {
         Phase::Writing { left: 6, gets }
     }

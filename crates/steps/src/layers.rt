@@ -1,9 +1,7 @@
 // A layer in code, the readable layer that it is tied to, and the stack of a layer over a machine.
-ghost use Rattle.std.specs.Prelude.{◌≡◌, ℕ, Option};
-ghost use Rattle.drives.specs.Machines.{Machine};
+ghost use Rattle.std.specs.Prelude.{◌≡◌, ℕ};
 ghost use Rattle.drives.specs.Layers.{Layer, over};
-ghost use Rattle.steps.specs.Steps.{Held, Stepped, Stepping};
-ghost use Rattle.steps.specs.Stacks.{Asked, Planning, PlannedAll, stack_of, Both, enough};
+ghost use Rattle.steps.specs.Stacks.{Planning, PlannedAll, stack_of, Both, enough};
 ghost use Rattle.steps.specs.Stacked.{stacked};
 
 use super::machines::Stepper;
