@@ -1,6 +1,6 @@
 -- A line is answered as what is heard of it.
 -- Assumes nothing.
-use Rattle.std.proofs.Common.{◌≡◌, ℕ, List, Ok, Err, Result, refl, sym, ap, ◌∙◌, subst}
+use Rattle.std.proofs.Common.{◌≡◌, ℕ, List, sym, ap, ◌∙◌, subst}
 use Rattle.drives.specs.Drives.{Drives, Io, answer, run, Ran}
 use Rattle.drives.proofs.Programs.{run_then}
 use Rattle.steps.specs.Steps.{Held, Stepping, first, runs, machine_of}
@@ -13,15 +13,7 @@ use Rattle.clock.specs.declared.Asked.{Asked}
 use Rattle.clock.specs.declared.Clock.{Clock}
 use Rattle.clock.specs.declared.Told.{Told}
 use Rattle.clock.specs.Clock.{clock_code}
-use Rattle.lines.specs.declared.order.Refusal.{Refusal}
-use Rattle.answers.specs.Says as answers
-use Rattle.clock.specs.Spelled as spelled
 use Rattle.clock.specs.Spelled.{asked_in, told_bytes, line_code}
-
--- the answers' reply to what is said is the clock's
-pub spelt_alike : (said : Result Unit Refusal) → answers.reply_of said ≡ spelled.reply_of said
-spelt_alike (Ok ok) = refl
-spelt_alike (Err why) = refl
 
 module _ {L : Type 0} (s : Stepping Call Reply L) where
   abbrev Mem : Type 0

@@ -32,7 +32,7 @@ fn hear(line: &[u8], longest: usize, time: u64) -> Asked
 }
 
 // Writes the answer to the front of `out`, and says how long it is; nothing, where there is no room for it.
-#[tactic(auto, using(crate::proofs::Spelt::spelt_alike), unfolding(clock::specs::Spelled::told_bytes))]
+#[tactic(auto, unfolding(clock::specs::Spelled::told_bytes))]
 fn write_told(told: Told, out: &mut [u8]) -> Option<usize>
     ensures { Answered (told_bytes told) out.old result out.new }
 {
