@@ -43,19 +43,16 @@ fn play<R: BufRead>(rt: &(impl Print + AllocGlobal), script: &mut R) -> io::Resu
 }
 
 fn main(rt: HostRuntime) -> io::Result<()> {
-    let mut names = env::args(&rt)?;
-    let _program = names.next();
-    let mut scripts = 0u64;
+    let mut names = env::args(&rt)?.skip(1).peekable();
+    if names.peek().is_none() {
+        play(&rt, &mut BufReader::new(rt.alloc(), rt.stdin())?)?;
+    }
     for name in names {
-        scripts = scripts.saturating_add(1);
         println!(rt; "script {name}")?;
         play(
             &rt,
             &mut BufReader::new(rt.alloc(), File::open(&rt, &name)?)?,
         )?;
-    }
-    if scripts == 0 {
-        play(&rt, &mut BufReader::new(rt.alloc(), rt.stdin())?)?;
     }
     Ok(())
 }

@@ -25,10 +25,8 @@ pub struct Rehearsal {
     pub weak: Weak,
     // sectors of each drive
     pub size: u64,
-    // what the last command that asked the drives for something asked for
-    pub asked: Counts,
-    // whether a command has asked them for something
-    pub begun: bool,
+    // what the last command that asked the drives for something asked for, once there was one
+    pub asked: Option<Counts>,
     house: House<Recorder>,
     longest: usize,
     // whether the house was opened since the power last failed
@@ -103,13 +101,11 @@ fn drive_of(number: u64) -> Result<usize, Trouble> {
 
 impl Rehearsal {
     pub fn new(disks: SimDrives, line: Vec<u8>, answer: Vec<u8>) -> Rehearsal {
-        let asked = disks.counts();
         Rehearsal {
             disks,
             weak: Weak::none(),
             size: FEWEST,
-            asked,
-            begun: false,
+            asked: None,
             house: closed_house(LONGEST),
             longest: LONGEST,
             open: false,
@@ -120,7 +116,7 @@ impl Rehearsal {
     }
 
     pub fn set_size(&mut self, size: u64) -> Result<(), Trouble> {
-        if self.begun {
+        if self.asked.is_some() {
             return Err(Trouble::Begun);
         }
         if !(FEWEST..=MOST).contains(&size) {
@@ -132,7 +128,7 @@ impl Rehearsal {
     }
 
     pub fn set_longest(&mut self, longest: u64) -> Result<(), Trouble> {
-        if self.begun {
+        if self.asked.is_some() {
             return Err(Trouble::Begun);
         }
         if longest > MOST_LENT as u64 {
@@ -196,8 +192,7 @@ impl Rehearsal {
         let counts = self.disks.counts();
         let is_on = self.disks.is_on();
         if !is_on || counts != Counts::default() {
-            self.asked = counts;
-            self.begun = true;
+            self.asked = Some(counts);
         }
         if is_on {
             return Ok(());
