@@ -87,6 +87,7 @@ fn with_number(text: &[u8]) -> Option<Order>
 fn order_in(text: &[u8]) -> Option<Order>
     ensures { result ≡ order_of text.now }
 {
+    // By `==`: a `match` on words is proved byte by byte, each case by a name of its own.
     if text == b"mend whole".as_slice() {
         Some(Order::MendWhole)
     } else if text == b"asked".as_slice() {
