@@ -5,11 +5,12 @@ mod rehearsal;
 mod words;
 
 use console::{Text, TextLine};
-use rehearsal::{MOST_LENT, Rehearsal};
+use rehearsal::Rehearsal;
 use simdrives::SimDrives;
 use std::fs::File;
 use std::io::{BufRead, BufReader};
 use std::{env, io};
+use whole::LONGEST;
 
 // Each line of a script is answered before the next is read.
 fn play_on<R: BufRead>(
@@ -36,8 +37,8 @@ fn play_on<R: BufRead>(
 // Plays a script on fresh drives.
 fn play<R: BufRead>(rt: &(impl Print + AllocGlobal), script: &mut R) -> io::Result<()> {
     let heap = rt.alloc();
-    let line = vec![in heap; 0u8; MOST_LENT + 1]?;
-    let answer = vec![in heap; 0u8; MOST_LENT + 1]?;
+    let line = vec![in heap; 0u8; LONGEST + 1]?;
+    let answer = vec![in heap; 0u8; LONGEST + 1]?;
     let mut rehearsal = Rehearsal::new(SimDrives::new(heap), line, answer);
     play_on(rt, &mut rehearsal, script)
 }
