@@ -1,7 +1,7 @@
 // What a person or a program types: lines of text to commands, hexadecimal both ways.
 #![tactic(auto)]
 
-ghost use Rattle.std.specs.Prelude.{◌≡◌, ℕ, ◌+◌, ◌-◌, ◌*◌, ◌/◌, ◌%◌, ◌^◌, ◌<◌, ◌≤◌, min, Bool, true, false, cond, List, ◌++◌, length};
+ghost use Rattle.std.specs.Prelude.{◌≡◌, ℕ, List, length};
 ghost use Rattle.console.specs.Commands.{said_of, said_with_digits, says, Trims, Means, IsWithin};
 
 mod digits;

@@ -3,7 +3,7 @@
 
 ghost use Rattle.std.specs.Prelude.{◌≡◌, ℕ, ◌<◌, ◌==◌, List, length, position, IfSome};
 ghost use Rattle.console.specs.Commands.{Trims};
-ghost use Rattle.script.specs.Numbers.{number_of, number_after};
+ghost use Rattle.script.specs.Numbers.{number_after};
 ghost use Rattle.script.specs.Orders.{chosen_of, cut_in, cut_of, numbered, order_of};
 
 mod numbers;
