@@ -1,7 +1,7 @@
 // Six drives in memory that can be lost, replaced and cut.
 #![tactic(auto)]
 
-ghost use Rattle.std.specs.Prelude.{◌≡◌, ℕ, ◌<◌, Bool, true, [], if◌then◌else◌, slice_index_or, unwrap_or, OnOk, OnErr, IsOk};
+ghost use Rattle.std.specs.Prelude.{◌≡◌, ℕ, ◌<◌, true, [], if◌then◌else◌, slice_index_or, unwrap_or, OnOk, OnErr, IsOk};
 ghost use Rattle.drives.specs.Drives.{gone, there, blank_drive, shown, written_to, synced_one, put, AfterCut};
 ghost use Rattle.drives.specs.Machines.{is_gone};
 ghost use Rattle.simdrives.specs.Sims.{slots};
