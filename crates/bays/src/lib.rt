@@ -4,15 +4,8 @@
 ghost use Rattle.std.specs.Prelude.{◌≡◌, if◌then◌else◌, nat_lt, slice_index_or, count_by};
 ghost use Rattle.bays.specs.Bays.{label_of, fits, votes, better, elected, admitted, Admits, is_there, settled, unseen};
 
+use labels::{FEWEST_SECTORS, MOST_SECTORS, SECTOR_BYTES};
 use std::{array, fmt};
-
-// The bytes of a sector.
-const SECTOR: u64 = 512;
-
-// The fewest and the most sectors that a drive may have.
-const FEWEST: u64 = 8192;
-
-const MOST: u64 = 1 << 40;
 
 // What the label of a file shows.
 #[derive(Clone, Copy, PartialEq, Eq)]
@@ -63,7 +56,7 @@ pub enum Drive {
 fn is_length(bytes: u64) -> bool
     ensures { result ≡ fits bytes }
 {
-    bytes % SECTOR == 0 && (FEWEST..=MOST).contains(&(bytes / SECTOR))
+    bytes % SECTOR_BYTES == 0 && (FEWEST_SECTORS..=MOST_SECTORS).contains(&(bytes / SECTOR_BYTES))
 }
 
 // How many files have that length.
@@ -83,7 +76,7 @@ pub fn admit(was: Drive, seen: Option<Found>, sectors: Option<u64>) -> Drive
     let Some(Found { bytes, label }) = seen else {
         return Drive::Gone;
     };
-    if bytes % SECTOR != 0 || bytes / SECTOR != sectors.unwrap_or(0) {
+    if bytes % SECTOR_BYTES != 0 || bytes / SECTOR_BYTES != sectors.unwrap_or(0) {
         return Drive::Odd;
     }
     let away = matches!(
@@ -123,7 +116,8 @@ impl fmt::Display for Drive {
     }
 }
 
-// The better of a file's length and the best so far: one that more files have. The first must be that of more files than are empty.
+// The better of a file's length and the best so far: one that more files have.
+// While there is none so far, it is compared with the length 0, so more files must have it than are empty.
 fn better_length(all: &[Option<Found>; 6], seen: Option<Found>, best: Option<u64>) -> Option<u64>
     ensures { result ≡ better all.now best seen }
 {
@@ -141,7 +135,7 @@ fn elect(seen: &[Option<Found>; 6]) -> Option<u64>
 {
     seen.iter()
         .fold(None, |best, file| better_length(seen, *file, best))
-        .map(|bytes| bytes / SECTOR)
+        .map(|bytes| bytes / SECTOR_BYTES)
 }
 
 // The drives 0 to 5, as they stood when they were last looked at.
@@ -167,6 +161,14 @@ impl Drives {
         ensures { result ≡ (if nat_lt i 6 then slice_index_or self.now.at i Drive.Unseen else Drive.Unseen) }
     {
         self.at.get(i).copied().unwrap_or(Drive::Unseen)
+    }
+
+    // How each of them stands.
+    pub fn states(&self) -> [Drive; 6]
+        ensures { result ≡ self.now.at }
+    {
+        let Drives { at, .. } = *self;
+        at
     }
 
     // How many may be asked for sectors.

@@ -1,8 +1,8 @@
 // Digits: hexadecimal both ways, and decimal numbers.
-ghost use Rattle.std.specs.Prelude.{◌≡◌, ℕ, ◌+◌, ◌-◌, ◌*◌, ◌/◌, ◌%◌, ◌^◌, ◌<◌, ◌≤◌, min, Bool, true, false, cond, List, [], ◌++◌, length, OnOk};
+ghost use Rattle.std.specs.Prelude.{◌≡◌, ◌<◌, ◌++◌, OnOk};
 ghost use Rattle.std.specs.List.{list_all};
 ghost use Rattle.std.specs.Char.{is_ascii_hexdigit};
-ghost use Rattle.console.specs.Hex.{digit_value, byte_at, unhexed, is_hex, line_of, Lays, digit, hexed, value_from, number_in};
+ghost use Rattle.console.specs.Hex.{digit_value, unhexed, line_of, Lays, digit, hexed, number_in};
 
 use std::alloc::AllocError;
 

@@ -1,7 +1,7 @@
 // What a person or a program types: lines of text to commands, hexadecimal both ways.
 #![tactic(auto)]
 
-ghost use Rattle.std.specs.Prelude.{◌≡◌, ℕ, ◌+◌, ◌-◌, ◌*◌, ◌/◌, ◌%◌, ◌^◌, ◌<◌, ◌≤◌, min, Bool, true, false, cond, List, ◌++◌, length};
+ghost use Rattle.std.specs.Prelude.{◌≡◌, ℕ, List, length};
 ghost use Rattle.console.specs.Commands.{said_of, said_with_digits, says, Trims, Means, IsWithin};
 
 mod digits;
@@ -24,7 +24,7 @@ pub enum Command<'a> {
 }
 
 // What a line of text comes to: a line of bytes of that length at the front of the buffer, or a time, or another command.
-// It is the length and not that part of the buffer, since no clause that gets a proof says what is left in a slice that the result borrows.
+// It is the length and not that part of the buffer: a clause on the rest of a slice that the result borrows gets no proof, though one on a struct does (`TextLine::read`).
 #[derive(Clone, Copy)]
 pub enum Input {
     Nothing,
@@ -75,6 +75,7 @@ pub fn understand(text: &[u8], line: &mut [u8]) -> Input
     match read_command(text.trim_ascii_end()) {
         Command::Blank => Input::Nothing,
         Command::Hex(digits) => Input::Line(unhex(digits, line)),
+        // text that is no number tells a time out of range, which is refused
         Command::Time(digits) => Input::Tells(number(digits).unwrap_or(u64::MAX)),
         Command::Mend => Input::Mends,
         Command::Status => Input::Asks,

@@ -1,5 +1,5 @@
 // What the house does for each command: it looks at its bays, comes up if it isn't, and answers.
-use crate::files::{DriveFiles, FEWEST};
+use crate::files::{DriveFiles, FEWEST_DRIVES};
 use asks::write_time;
 use bays::{Drive, Drives};
 use console::push_hex;
@@ -67,13 +67,11 @@ impl Desk {
     // Opens the files anew: a drive may have been removed or replaced since the last command.
     fn look(&mut self, rt: &(impl Files<File = File> + Eprint)) {
         let seen = self.files.open_all(rt);
-        let before = self.drives;
+        let before = self.drives.states();
         self.drives.look(&seen);
-        // by number, since a drive is named by its number
-        for i in 0..6 {
-            let now = self.drives.state(i);
+        for (i, (now, was)) in self.drives.states().into_iter().zip(before).enumerate() {
             let odd = matches!(now, Drive::Odd | Drive::Foreign | Drive::Stale);
-            if odd && now != before.state(i) {
+            if odd && now != was {
                 let _ = eprintln!(rt; "drive{i} is {now}: it is left alone");
             }
         }
@@ -84,7 +82,7 @@ impl Desk {
     fn come_up(&mut self, rt: &(impl Files<File = File> + Eprint)) -> Result<(), Trouble> {
         self.look(rt);
         let there = self.drives.count_there();
-        if there < FEWEST {
+        if there < FEWEST_DRIVES {
             return Err(Trouble::Closed(there));
         }
         if !self.up {
@@ -125,7 +123,7 @@ impl Desk {
         let n = answer_line(&mut self.house, &mut self.files, line, &mut answer).unwrap_or(0);
         self.stay_up(rt)?;
         write!(out, "out ")?;
-        push_hex(out, &answer[0..n.min(64)])?;
+        push_hex(out, answer.get(..n).unwrap_or(&answer))?;
         writeln!(out)?;
         Ok(())
     }
@@ -139,7 +137,7 @@ impl Desk {
     ) -> Result<(), Trouble> {
         let mut line = [0u8; 32];
         let n = write_time(0, ms, &mut line).unwrap_or(0);
-        self.call(rt, &line[0..n.min(32)], out)
+        self.call(rt, &line[..n], out)
     }
 
     pub fn mend(
@@ -163,9 +161,7 @@ impl Desk {
         self.look(rt);
         let sectors = self.drives.sectors.unwrap_or(0);
         write!(out, "status: {sectors} sectors")?;
-        // by number here too
-        for i in 0..6 {
-            let state = self.drives.state(i);
+        for (i, state) in self.drives.states().iter().enumerate() {
             write!(out, ", drive{i} {state}")?;
         }
         writeln!(out)

@@ -4,16 +4,14 @@ ghost use Rattle.drives.specs.Drives.{gone};
 
 use bays::{Drives, Found, Label};
 use driver::Disks;
-use labels::read_label;
+use labels::{SECTOR_BYTES, read_label};
 use std::fs::{File, OpenOptions};
 use std::io::{Read, Seek, SeekFrom, Write};
 use std::rt::Files;
 use std::{fs, io};
 
-const SECTOR: u64 = 512;
-
 // The fewest drives that anything is asked of: with fewer, a house that is only unplugged might begin anew.
-pub const FEWEST: usize = 4;
+pub const FEWEST_DRIVES: usize = 4;
 
 // The name of each drive's file, and its name once the drive is lost.
 const NAMES: [(&str, &str); 6] = [
@@ -41,7 +39,7 @@ pub struct DriveFiles {
 }
 
 fn seek_sector(file: &mut File, sector: u64) -> io::Result<()> {
-    let Some(place) = sector.checked_mul(SECTOR) else {
+    let Some(place) = sector.checked_mul(SECTOR_BYTES) else {
         return Err(io::Error::other("no such sector"));
     };
     file.seek(SeekFrom::Start(place))?;
@@ -77,7 +75,7 @@ fn try_again(file: &mut File, what: Failure) -> io::Result<()> {
 
 fn find(file: &mut File) -> io::Result<Found> {
     let bytes = file.metadata()?.len();
-    let label = if bytes < SECTOR {
+    let label = if bytes < SECTOR_BYTES {
         Label::Foreign
     } else {
         read_label(&read_sector(file, 0)?).into()
@@ -115,11 +113,12 @@ impl DriveFiles {
     pub fn open_all(&mut self, rt: &impl Files<File = File>) -> [Option<Found>; 6] {
         self.failed = None;
         let mut seen = [None; 6];
-        for (i, (name, _)) in NAMES.iter().enumerate() {
-            self.at[i] = None;
+        let places = self.at.iter_mut().zip(seen.iter_mut());
+        for ((place, shown), (name, _)) in places.zip(NAMES.iter()) {
+            *place = None;
             if let Ok((file, found)) = open_drive(rt, name) {
-                self.at[i] = Some(file);
-                seen[i] = Some(found);
+                *place = Some(file);
+                *shown = Some(found);
             }
         }
         seen
@@ -127,8 +126,8 @@ impl DriveFiles {
 
     // Closes those that are no drives of the house.
     pub fn keep(&mut self, drives: &Drives) {
-        for (i, file) in self.at.iter_mut().enumerate() {
-            if !drives.state(i).is_there() {
+        for (file, state) in self.at.iter_mut().zip(drives.states()) {
+            if !state.is_there() {
                 *file = None;
             }
         }
@@ -169,7 +168,7 @@ impl DriveFiles {
     pub fn put_away(&mut self, rt: &impl Files, there: usize) -> Option<u8> {
         let (drive, what) = self.failed?;
         let (name, lost) = NAMES.get(usize::from(drive))?;
-        if self.count_failing(what).max(1) > there.saturating_sub(FEWEST) {
+        if self.count_failing(what).max(1) > there.saturating_sub(FEWEST_DRIVES) {
             return None;
         }
         fs::rename(rt, *name, *lost).ok()?;

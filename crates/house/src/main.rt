@@ -10,9 +10,7 @@ use std::fs::File;
 use std::io;
 use std::io::{BufReader, Write};
 use std::rt::Files;
-
-// The longest line of bytes: a put of 5,242,880 bytes under the longest names.
-const LONGEST: usize = 5_243_414;
+use whole::LONGEST;
 
 const HELP: &str = "help: in HEX (a line of bytes) | time MS | mend (one stretch) | status | help";
 
@@ -20,13 +18,10 @@ const HELP: &str = "help: in HEX (a line of bytes) | time MS | mend (one stretch
 fn obey(
     rt: &(impl Files<File = File> + Eprint),
     desk: &mut Desk,
-    read: Text<'_>,
+    text: &[u8],
     line: &mut [u8],
     out: &mut Vec<u8>,
 ) -> Result<(), Trouble> {
-    let Text::Line(text) = read else {
-        return desk.call(rt, b"", out);
-    };
     match understand(text, line) {
         Input::Nothing => {}
         Input::Line(n) => desk.call(rt, &line[..n], out)?,
@@ -46,12 +41,14 @@ fn main(rt: HostRuntime) -> io::Result<()> {
     let mut out = Vec::new(heap);
     let mut desk = Desk::new(LONGEST);
     for _ in 0..u64::MAX {
-        let read = text.read(&mut input)?;
-        if let Text::End = read {
-            break;
-        }
         out.clear();
-        match obey(&rt, &mut desk, read, &mut line, &mut out) {
+        let done = match text.read(&mut input)? {
+            Text::End => break,
+            // as the house answers any text that is no command
+            Text::TooLong(_) => obey(&rt, &mut desk, b"?", &mut line, &mut out),
+            Text::Line(text) => obey(&rt, &mut desk, text, &mut line, &mut out),
+        };
+        match done {
             Ok(()) => {}
             Err(Trouble::Io(error)) => return Err(error),
             Err(trouble) => writeln!(out, "{trouble}")?,

@@ -7,6 +7,14 @@ ghost use Rattle.labels.specs.Times.{byte_of, payload_of, number, label_in, labe
 
 use register::Payload;
 
+// The bytes of a sector.
+pub const SECTOR_BYTES: u64 = 512;
+
+// The fewest and the most sectors that a drive may have.
+pub const FEWEST_SECTORS: u64 = 8192;
+
+pub const MOST_SECTORS: u64 = 1 << 40;
+
 // What a drive shows: it is not there, it is new, it is being filled, it has a record, or it is none of ours.
 #[derive(Clone, Copy)]
 pub enum Label {
@@ -95,6 +103,7 @@ fn label_in(sector: &[u8; 512]) -> Label
 }
 
 // What a drive shows, by the bytes that its sector 0 reads as; nothing is read of a drive that is not there.
+// It takes any bytes: a narrower type would ask more of who calls.
 pub fn read_label(sector: &[u8]) -> Label
     ensures { result ≡ label_in sector.now }
 {

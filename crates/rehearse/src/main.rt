@@ -5,11 +5,12 @@ mod rehearsal;
 mod words;
 
 use console::{Text, TextLine};
-use rehearsal::{MOST_LENT, Rehearsal};
+use rehearsal::Rehearsal;
 use simdrives::SimDrives;
 use std::fs::File;
 use std::io::{BufRead, BufReader};
 use std::{env, io};
+use whole::LONGEST;
 
 // Each line of a script is answered before the next is read.
 fn play_on<R: BufRead>(
@@ -36,26 +37,23 @@ fn play_on<R: BufRead>(
 // Plays a script on fresh drives.
 fn play<R: BufRead>(rt: &(impl Print + AllocGlobal), script: &mut R) -> io::Result<()> {
     let heap = rt.alloc();
-    let line = vec![in heap; 0u8; MOST_LENT + 1]?;
-    let answer = vec![in heap; 0u8; MOST_LENT + 1]?;
+    let line = vec![in heap; 0u8; LONGEST + 1]?;
+    let answer = vec![in heap; 0u8; LONGEST + 1]?;
     let mut rehearsal = Rehearsal::new(SimDrives::new(heap), line, answer);
     play_on(rt, &mut rehearsal, script)
 }
 
 fn main(rt: HostRuntime) -> io::Result<()> {
-    let mut names = env::args(&rt)?;
-    let _program = names.next();
-    let mut scripts = 0u64;
+    let mut names = env::args(&rt)?.skip(1).peekable();
+    if names.peek().is_none() {
+        play(&rt, &mut BufReader::new(rt.alloc(), rt.stdin())?)?;
+    }
     for name in names {
-        scripts = scripts.saturating_add(1);
         println!(rt; "script {name}")?;
         play(
             &rt,
             &mut BufReader::new(rt.alloc(), File::open(&rt, &name)?)?,
         )?;
-    }
-    if scripts == 0 {
-        play(&rt, &mut BufReader::new(rt.alloc(), rt.stdin())?)?;
     }
     Ok(())
 }

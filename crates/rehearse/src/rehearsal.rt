@@ -1,23 +1,16 @@
 // The house on drives in memory, and what is done to both. The machine is the very one that the house runs on files.
 use front::House;
+use labels::{FEWEST_SECTORS, MOST_SECTORS};
 use recorder::Recorder;
 use script::{Chosen, Weak};
 use simdrives::{Choice, Counts, NotGone, Power, SimDrives};
 use std::alloc::AllocError;
 use std::{fmt, io};
 use steps::machines::Stepper;
-use whole::{answer_line, closed_house};
-
-// The longest line of bytes that memory can be lent for.
-pub const MOST_LENT: usize = 5_243_414;
+use whole::{LONGEST, answer_line, closed_house};
 
 // The longest line that a house hears, unless it is told otherwise.
-const LONGEST: usize = 1_048_576;
-
-// The fewest and the most sectors that a drive may have.
-const FEWEST: u64 = 8192;
-
-const MOST: u64 = 1 << 40;
+const LONGEST_AT_FIRST: usize = 1_048_576;
 
 #[derive(Drop)]
 pub struct Rehearsal {
@@ -25,10 +18,8 @@ pub struct Rehearsal {
     pub weak: Weak,
     // sectors of each drive
     pub size: u64,
-    // what the last command that asked the drives for something asked for
-    pub asked: Counts,
-    // whether a command has asked them for something
-    pub begun: bool,
+    // what the last command that asked the drives for something asked for, once there was one
+    pub asked: Option<Counts>,
     house: House<Recorder>,
     longest: usize,
     // whether the house was opened since the power last failed
@@ -47,7 +38,7 @@ pub enum Trouble {
     Begun,
     OutOfRange,
     TwoWeak,
-    NotGone,
+    NotGone(NotGone),
     Io(io::Error),
 }
 
@@ -58,18 +49,19 @@ impl fmt::Display for Trouble {
             Trouble::Begun => f.write_str("refused: the drives were asked for something before"),
             Trouble::OutOfRange => f.write_str("refused: the number is out of range"),
             Trouble::TwoWeak => f.write_str("refused: two other drives are weak"),
-            Trouble::NotGone => write!(f, "refused: {NotGone}"),
+            Trouble::NotGone(error) => write!(f, "refused: {error}"),
             Trouble::Io(error) => write!(f, "{error}"),
         }
     }
 }
 
 impl From<NotGone> for Trouble {
-    fn from(_there: NotGone) -> Trouble {
-        Trouble::NotGone
+    fn from(error: NotGone) -> Trouble {
+        Trouble::NotGone(error)
     }
 }
 
+// Each program has troubles of its own: only these two conversions are alike.
 impl From<io::Error> for Trouble {
     fn from(error: io::Error) -> Trouble {
         Trouble::Io(error)
@@ -103,15 +95,13 @@ fn drive_of(number: u64) -> Result<usize, Trouble> {
 
 impl Rehearsal {
     pub fn new(disks: SimDrives, line: Vec<u8>, answer: Vec<u8>) -> Rehearsal {
-        let asked = disks.counts();
         Rehearsal {
             disks,
             weak: Weak::none(),
-            size: FEWEST,
-            asked,
-            begun: false,
-            house: closed_house(LONGEST),
-            longest: LONGEST,
+            size: FEWEST_SECTORS,
+            asked: None,
+            house: closed_house(LONGEST_AT_FIRST),
+            longest: LONGEST_AT_FIRST,
             open: false,
             chosen: Chosen::Seed(0),
             line,
@@ -120,10 +110,10 @@ impl Rehearsal {
     }
 
     pub fn set_size(&mut self, size: u64) -> Result<(), Trouble> {
-        if self.begun {
+        if self.asked.is_some() {
             return Err(Trouble::Begun);
         }
-        if !(FEWEST..=MOST).contains(&size) {
+        if !(FEWEST_SECTORS..=MOST_SECTORS).contains(&size) {
             return Err(Trouble::OutOfRange);
         }
         self.size = size;
@@ -132,10 +122,10 @@ impl Rehearsal {
     }
 
     pub fn set_longest(&mut self, longest: u64) -> Result<(), Trouble> {
-        if self.begun {
+        if self.asked.is_some() {
             return Err(Trouble::Begun);
         }
-        if longest > MOST_LENT as u64 {
+        if longest > LONGEST as u64 {
             return Err(Trouble::OutOfRange);
         }
         self.longest = longest as usize;
@@ -196,8 +186,7 @@ impl Rehearsal {
         let counts = self.disks.counts();
         let is_on = self.disks.is_on();
         if !is_on || counts != Counts::default() {
-            self.asked = counts;
-            self.begun = true;
+            self.asked = Some(counts);
         }
         if is_on {
             return Ok(());
@@ -211,17 +200,12 @@ impl Rehearsal {
     // Calls the house with the first bytes of the line, and gives its answer.
     pub fn call(&mut self, length: usize) -> Result<&[u8], Trouble> {
         self.come_up()?;
-        let n = length.min(self.line.len());
-        let said = answer_line(
-            &mut self.house,
-            &mut self.disks,
-            &self.line[0..n],
-            &mut self.answer,
-        )
-        .unwrap_or(0);
+        let line = self.line.as_slice();
+        let line = line.get(..length).unwrap_or(line);
+        let n = answer_line(&mut self.house, &mut self.disks, line, &mut self.answer).unwrap_or(0);
         self.stay_up()?;
-        let n = said.min(self.answer.len());
-        Ok(&self.answer[0..n])
+        let answer = self.answer.as_slice();
+        Ok(answer.get(..n).unwrap_or(answer))
     }
 
     // Does one stretch of mending; says whether all is whole.

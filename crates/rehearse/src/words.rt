@@ -37,7 +37,7 @@ impl Rehearsal {
         Ok(())
     }
 
-    // The call that tells the time: 13 bytes follow the length, the tag is 0, the kind is 14.
+    // Tells the time, as a line with tag 0 would.
     fn say_time(&mut self, ms: u64, out: &mut Vec<u8>) -> Result<(), Trouble> {
         let n = write_time(0, ms, &mut self.line).unwrap_or(0);
         self.say_call(n, out)
@@ -56,7 +56,7 @@ impl Rehearsal {
     }
 
     fn say_asked(&self, out: &mut Vec<u8>) -> io::Result<()> {
-        let asked = self.asked;
+        let asked = self.asked.unwrap_or_default();
         writeln!(
             out,
             "asked {} {} {}",

@@ -3,7 +3,7 @@
 
 ghost use Rattle.std.specs.Prelude.{◌≡◌, ℕ, ◌<◌, ◌==◌, List, length, position, IfSome};
 ghost use Rattle.console.specs.Commands.{Trims};
-ghost use Rattle.script.specs.Numbers.{number_of, number_after};
+ghost use Rattle.script.specs.Numbers.{number_after};
 ghost use Rattle.script.specs.Orders.{chosen_of, cut_in, cut_of, numbered, order_of};
 
 mod numbers;
@@ -87,6 +87,7 @@ fn with_number(text: &[u8]) -> Option<Order>
 fn order_in(text: &[u8]) -> Option<Order>
     ensures { result ≡ order_of text.now }
 {
+    // By `==`: a `match` on words is proved byte by byte, each case by a name of its own.
     if text == b"mend whole".as_slice() {
         Some(Order::MendWhole)
     } else if text == b"asked".as_slice() {

@@ -1,5 +1,5 @@
 // The drives that are weak: each from when it is lost until the house, having it back, has said that all is whole.
-ghost use Rattle.std.specs.Prelude.{◌≡◌, ℕ, ◌+◌, ◌<◌, ◌≤◌, Bool, true, false, cond, ◌&&◌, length, slice_index_or};
+ghost use Rattle.std.specs.Prelude.{◌≡◌, ℕ, ◌<◌, true, false, ◌&&◌, length, slice_index_or};
 ghost use Rattle.drives.specs.Machines.{without};
 ghost use Rattle.script.specs.Weaks.{weak_from, may_lose, lost_of};
 

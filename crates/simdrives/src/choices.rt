@@ -1,5 +1,5 @@
 // How a cut chooses what each sector holds after it.
-ghost use Rattle.std.specs.Prelude.{◌≡◌, ℕ, ◌+◌, ◌*◌, ◌/◌, ◌%◌, ◌^◌, ◌<◌};
+ghost use Rattle.std.specs.Prelude.{◌≡◌, ◌+◌, ◌^◌, ◌<◌};
 ghost use Rattle.simdrives.specs.Chances.{stirred, mixed_of, undoes, chosen_next};
 
 use std::collections::BTreeMap;

@@ -107,8 +107,7 @@ fn one_less(counts: &mut BTreeMap<u64, u64>, sector: u64) -> bool {
     }
 }
 
-// Of a drive that is gone each of these changes nothing.
-
+// Changes nothing where the drive is gone.
 #[tactic(auto, unfolding(drives::specs::Drives::written_to))]
 pub fn write(
     slot: &mut Option<Sectors>,
@@ -124,6 +123,7 @@ pub fn write(
     }
 }
 
+// Changes nothing where the drive is gone.
 #[tactic(auto, unfolding(drives::specs::Drives::synced_one))]
 pub fn sync(slot: &mut Option<Sectors>)
     ensures { slot_of slot.new ≡ synced_one (slot_of slot.old) }
@@ -133,7 +133,7 @@ pub fn sync(slot: &mut Option<Sectors>)
     }
 }
 
-// Leaves what a cut may leave.
+// Leaves what a cut may leave, and changes nothing where the drive is gone.
 pub fn cut(slot: &mut Option<Sectors>, heap: Global, choice: &mut Choice)
     ensures { CutSlot (slot_of slot.old) (slot_of slot.new) }
 {

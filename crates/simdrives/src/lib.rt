@@ -1,7 +1,7 @@
 // Six drives in memory that can be lost, replaced and cut.
 #![tactic(auto)]
 
-ghost use Rattle.std.specs.Prelude.{◌≡◌, ℕ, ◌<◌, Bool, true, [], if◌then◌else◌, slice_index_or, unwrap_or, OnOk, OnErr, IsOk};
+ghost use Rattle.std.specs.Prelude.{◌≡◌, ℕ, ◌<◌, true, [], if◌then◌else◌, slice_index_or, unwrap_or, OnOk, OnErr, IsOk};
 ghost use Rattle.drives.specs.Drives.{gone, there, blank_drive, shown, written_to, synced_one, put, AfterCut};
 ghost use Rattle.drives.specs.Machines.{is_gone};
 ghost use Rattle.simdrives.specs.Sims.{slots};
@@ -10,7 +10,7 @@ ghost use Rattle.simdrives.specs.Powers.{works, asked_of};
 use driver::Disks;
 use std::alloc::Global;
 use std::error::Error;
-use std::fmt;
+use std::{array, fmt};
 
 mod choices;
 mod drive;
@@ -63,9 +63,8 @@ impl SimDrives {
         ensures drives { (i : ℕ) → i < 6 → slots result.drives i ≡ there blank_drive }
         ensures power { result.power ≡ Power.On }
     {
-        let blank = || Some(Sectors::new(heap));
         SimDrives {
-            drives: [blank(), blank(), blank(), blank(), blank(), blank()],
+            drives: array::from_fn(|_| Some(Sectors::new(heap))),
             heap,
             power: Power::On,
             counts: Counts::default(),
@@ -167,6 +166,8 @@ impl SimDrives {
         }
     }
 
+    // This and the next two are no one method that takes a closure: each clause would speak of the closure's `post`.
+
     // The sector, if there is one to be read while the power is on.
     fn read_one(&mut self, drive: usize, sector: u64) -> Option<[u8; 512]>
         ensures on { self.new.power ≡ asked_of self.old.power }
@@ -222,15 +223,15 @@ impl Disks for SimDrives {
     ghost known = { λ _. ⊥ };
 
     fn read(&mut self, drive: u8, sector: u64) -> Option<[u8; 512]> {
-        self.read_one(drive as usize, sector)
+        self.read_one(usize::from(drive), sector)
     }
 
     fn write(&mut self, drive: u8, sector: u64, bytes: &[u8; 512]) {
-        self.write_one(drive as usize, sector, bytes);
+        self.write_one(usize::from(drive), sector, bytes);
     }
 
     fn sync(&mut self, drive: u8) {
-        self.sync_one(drive as usize);
+        self.sync_one(usize::from(drive));
     }
 }
 

@@ -50,9 +50,10 @@ fn as_answer(line: &[u8], again: &mut [u8]) -> Read {
     compare(line, written, again)
 }
 
-fn say(rt: &HostRuntime, line: &[u8], again: &mut [u8]) -> io::Result<()> {
+fn say(rt: &impl Print, line: &[u8], again: &mut [u8]) -> io::Result<()> {
     let call = as_call(line, again);
     let answer = as_answer(line, again);
+    // a line too short to have a kind is shown with 255
     let kind = kind_of(line).unwrap_or(255);
     println!(rt; "kind {kind}: call {call}, answer {answer}")
 }

@@ -11,6 +11,9 @@ use driver::Disks;
 use front::House;
 use recorder::Recorder;
 
+// The longest line of bytes that is ever heard: a put of 5,242,880 bytes under the longest names.
+pub const LONGEST: usize = 5_243_414;
+
 // A house that isn't up yet; it will hear lines of up to `longest` bytes.
 pub fn closed_house(longest: usize) -> House<Recorder>
     ensures { result.longest ≡ longest }
