@@ -1,6 +1,6 @@
 -- Which files count as drives, and how each drive stands.
 -- Assumes nothing.
-use Rattle.std.specs.Prelude.{◌≡◌, ℕ, ◌/◌, ◌%◌, ◌<◌, Bool, true, false, cond, ◌&&◌, List, [], ◌∷◌, ◌==◌, nat_le, nat_lt, slice_index_or, Option, Some, None, unwrap_or, count_by, fold}
+use Rattle.std.specs.Prelude.{◌≡◌, codes, ℕ, ◌/◌, ◌%◌, ◌<◌, Bool, true, false, cond, ◌&&◌, List, [], ◌∷◌, ◌==◌, nat_le, nat_lt, slice_index_or, Option, Some, None, unwrap_or, count_by, fold}
 use Rattle.std.specs.Option.{option_map, option_or}
 use Rattle.bays.specs.declared.Label.{Label}
 use Rattle.bays.specs.declared.Label.TheVariants as label
@@ -83,3 +83,14 @@ Admits before after seen sectors = (k : ℕ) → k < 6 → slice_index_or after 
 
 abbrev pub unseen : Drives
 unseen = record { at = Unseen ∷ Unseen ∷ Unseen ∷ Unseen ∷ Unseen ∷ Unseen ∷ []; sectors = None }
+
+-- what a drive is called in `status`
+abbrev pub called : Drive → List ℕ
+called Unseen = codes "gone"
+called Gone = codes "gone"
+called Odd = codes "of another length"
+called Foreign = codes "foreign"
+called Stale = codes "stale (a drive comes back only blank)"
+called Blank = codes "blank"
+called Rebuilding = codes "rebuilding"
+called Trusted = codes "trusted"

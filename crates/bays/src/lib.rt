@@ -103,6 +103,11 @@ impl Drive {
 
 // What a drive is called in `status`.
 impl fmt::Display for Drive {
+    ghost use Rattle.std.specs.Prelude.{Some};
+    ghost use Rattle.bays.specs.Bays.{called};
+
+    ghost output = { λ drive. Some (called drive) };
+
     fn fmt<W: fmt::Write>(&self, f: &mut fmt::Formatter<W>) -> fmt::Result {
         f.write_str(match self {
             Drive::Unseen | Drive::Gone => "gone",

@@ -22,6 +22,10 @@ pub struct Four<'a> {
 pub struct UnequalLengths;
 
 impl fmt::Display for UnequalLengths {
+    ghost use Rattle.std.specs.Prelude.{Some, codes};
+
+    ghost output = { λ _. Some (codes "the pieces are not of one length") };
+
     fn fmt<W: fmt::Write>(&self, f: &mut fmt::Formatter<W>) -> fmt::Result {
         f.write_str("the pieces are not of one length")
     }

@@ -10,6 +10,10 @@ use std::fmt;
 pub struct Unknown(pub u8);
 
 impl fmt::Display for Unknown {
+    ghost use Rattle.std.specs.Prelude.{Some, ◌++◌, codes, decimal};
+
+    ghost output = { λ unknown. Some (codes "nothing has the number " ++ decimal unknown.0) };
+
     fn fmt<W: fmt::Write>(&self, f: &mut fmt::Formatter<W>) -> fmt::Result {
         write!(f, "nothing has the number {}", self.0)
     }

@@ -25,6 +25,11 @@ pub enum Refused {
 }
 
 impl fmt::Display for Refused {
+    ghost use Rattle.std.specs.Prelude.{Some};
+    ghost use Rattle.pieces.specs.Refusals.{told};
+
+    ghost output = { λ refused. Some (told refused) };
+
     fn fmt<W: fmt::Write>(&self, f: &mut fmt::Formatter<W>) -> fmt::Result {
         f.write_str(match self {
             Self::Places => "the places of the pieces do not rise, or one is above 5",

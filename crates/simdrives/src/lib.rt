@@ -42,6 +42,10 @@ pub struct Counts {
 pub struct NotGone;
 
 impl fmt::Display for NotGone {
+    ghost use Rattle.std.specs.Prelude.{Some, codes};
+
+    ghost output = { λ _. Some (codes "the drive is not gone") };
+
     fn fmt<W: fmt::Write>(&self, f: &mut fmt::Formatter<W>) -> fmt::Result {
         f.write_str("the drive is not gone")
     }
