@@ -17,7 +17,8 @@ use lines::kinds::Kind::{
     Versions,
 };
 
-// One match over all fourteen calls would be longer than a function may be, so each sort of call has its own.
+// One match over all fourteen calls would be longer than a function may be, so each sort of call has its own. A struct of the tag, the call and the buffer
+// would be made once and taken apart at once.
 
 // Writes a call that makes, drops or rules a room, and leaves `out` alone at any other.
 fn write_room(tag: u32, call: Call<'_>, out: &mut [u8]) -> Option<usize>

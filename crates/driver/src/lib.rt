@@ -11,7 +11,7 @@ ghost use Rattle.driver.specs.Loops.{held_by, Performed, performed, Leaves, Ends
 use steps::machines::Stepper;
 use steps::{Ask, Lent};
 
-// What carries requests out. Nothing can be known of what files hold; of simulated drives it is, so each clause says what holds where it is known.
+// What carries requests out; a request's drive and sector go side by side, since a struct of the two would be made and taken apart at once. Nothing can be known of what files hold; of simulated drives it is, so each clause says what holds where it is known.
 pub trait Disks {
     ghost model: { Self → Drives };
 

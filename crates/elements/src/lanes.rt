@@ -19,7 +19,7 @@ pub(crate) fn doubled(x: Lanes) -> Lanes
     (x + x) ^ (has_top & Lanes::splat(29))
 }
 
-// The elements of P.
+// The elements of P. Four parameters here and below: a struct of four vectors would be made for a call and taken apart in it.
 #[tactic(auto, using(crate::proofs::Words::summed_lanes))]
 pub(crate) fn summed(w: Lanes, x: Lanes, y: Lanes, z: Lanes) -> Lanes
     ensures { result ≡ parity_p w x y z }

@@ -14,7 +14,8 @@ pub use elements::{UnequalLengths, encode};
 pub use held::{Held, Refused};
 use quorum::Quorum;
 
-// The piece at a place, made anew of any four: the one that encoding gave. Where it is refused nothing is written.
+// The piece at a place, made anew of any four: the one that encoding gave. Where it is refused nothing is written. Four parameters, as in the C interface:
+// the clauses would take an array apart.
 pub fn rebuild(
     w: Held,
     x: Held,
