@@ -6,7 +6,7 @@ ghost use Rattle.console.specs.Hex.{digit_value, unhexed, line_of, Lays, digit, 
 
 use std::alloc::AllocError;
 
-// What is no digit counts as 0.
+// What is no digit counts as 0: `unhex` has seen that there is none.
 fn digit_value(d: u8) -> u8
     ensures value { result ≡ digit_value d }
     ensures bound { result < 16 }

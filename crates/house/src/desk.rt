@@ -18,7 +18,7 @@ pub struct Desk {
     house: House<Recorder>,
     drives: Drives,
     files: DriveFiles,
-    // the house is up: it was opened, and no power failed since
+    // the house is up: it was opened, and no power failed since; one that is down is kept all the same, and opened again
     up: bool,
 }
 
@@ -54,6 +54,7 @@ impl From<AllocError> for Trouble {
     }
 }
 
+// What a command prints goes into `out`, which is written at once: a desk that held both would borrow them for good.
 impl Desk {
     pub fn new(longest: usize) -> Desk {
         Desk {
@@ -86,6 +87,7 @@ impl Desk {
             return Err(Trouble::Closed(there));
         }
         if !self.up {
+            // with four drives there a length is known
             let sectors = self.drives.sectors.unwrap_or(0);
             self.house.open(&mut self.files, sectors);
             self.up = true;
@@ -159,6 +161,7 @@ impl Desk {
         out: &mut Vec<u8>,
     ) -> io::Result<()> {
         self.look(rt);
+        // 0 is shown while no length is known
         let sectors = self.drives.sectors.unwrap_or(0);
         write!(out, "status: {sectors} sectors")?;
         for (i, state) in self.drives.states().iter().enumerate() {

@@ -46,6 +46,7 @@ fn seek_sector(file: &mut File, sector: u64) -> io::Result<()> {
     Ok(())
 }
 
+// A file and a sector go side by side: a struct of the two would be made and taken apart at once.
 fn read_sector(file: &mut File, sector: u64) -> io::Result<[u8; 512]> {
     let mut bytes = [0; 512];
     seek_sector(file, sector)?;

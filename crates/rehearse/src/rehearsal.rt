@@ -22,7 +22,7 @@ pub struct Rehearsal {
     pub asked: Option<Counts>,
     house: House<Recorder>,
     longest: usize,
-    // whether the house was opened since the power last failed
+    // whether the house was opened since the power last failed; one that wasn't is kept all the same
     open: bool,
     chosen: Chosen,
     // room for a line of bytes, one byte more than any that is taken, and for the answer

@@ -27,6 +27,7 @@ impl fmt::Display for Read {
     }
 }
 
+// A line and the buffer that it is written to again go side by side: they are of different loans.
 fn compare(line: &[u8], written: Option<usize>, again: &[u8]) -> Read {
     match written {
         Some(n) if again.get(..n) == Some(line) => Read::Same,
