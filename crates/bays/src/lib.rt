@@ -69,7 +69,8 @@ fn count_votes(seen: &[Option<Found>; 6], bytes: u64) -> usize
         .count()
 }
 
-// How a drive stands now, after how it stood before. While no length is known, only an empty file is of the right one.
+// How a drive stands now, after how it stood before. While no length is known, only an empty file is of the right one:
+// the promise has it so.
 pub fn admit(was: Drive, seen: Option<Found>, sectors: Option<u64>) -> Drive
     ensures { result ≡ admitted was seen sectors }
 {

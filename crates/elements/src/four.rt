@@ -5,6 +5,7 @@ ghost use Rattle.elements.specs.Bytes.{AreBytes};
 use std::error::Error;
 use std::fmt;
 
+// That an output is as long as these is a clause of each function that writes one, here and in `pieces`: no type holds it (sums.rt).
 #[derive(Clone, Copy)]
 pub struct Four<'a> {
     pub w: &'a [u8],

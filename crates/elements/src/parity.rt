@@ -7,7 +7,7 @@ use crate::bytes::weighted_byte;
 use crate::four::Four;
 use crate::lanes::{WIDTH, load, store, summed, weighted};
 
-// The parities of as many whole vectors as there are.
+// The parities of as many whole vectors as there are. Not two sums of `sums`: one pass loads each piece once, and Q needs no product.
 pub(crate) fn encode_vectors(four: &Four, p: &mut [u8], q: &mut [u8])
     requires lengths { (length p.old ≡ length four.now.w.now) × (length q.old ≡ length four.now.w.now) }
     ensures p { take (length four.now.w.now / 32 * 32) p.new ≡ take (length four.now.w.now / 32 * 32) (blended (generator 4) four.now) }
@@ -26,7 +26,7 @@ pub(crate) fn encode_vectors(four: &Four, p: &mut [u8], q: &mut [u8])
     }
 }
 
-// The parities from a place on, where those before it stand.
+// The parities from a place on, where those before it stand. Bytes and vectors have loops of their own, as their arithmetic is their own (bytes.rt).
 pub(crate) fn encode_bytes(four: &Four, p: &mut [u8], q: &mut [u8], from: usize)
     requires lengths { (length p.old ≡ length four.now.w.now) × (length q.old ≡ length four.now.w.now) }
     requires from_within { from ≤ length four.now.w.now }

@@ -26,7 +26,7 @@ fn blend_vectors<const A: u8, const B: u8, const C: u8, const D: u8>(four: &Four
     }
 }
 
-// The sums from a place on, where those before it stand.
+// The sums from a place on, where those before it stand. As with the parities, bytes have a loop of their own.
 fn blend_bytes<const A: u8, const B: u8, const C: u8, const D: u8>(
     four: &Four,
     out: &mut [u8],

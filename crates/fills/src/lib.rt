@@ -122,7 +122,8 @@ impl Writer<'_> {
 }
 
 // Writes a line to the front of `out` and says how long it is, or leaves `out` alone. None says only that nothing was
-// written, which is all that callers act on.
+// written, which is all that callers act on. It is the length and not that part of `out`: a clause on the rest of a slice
+// that the result borrows gets no proof (console's `Input`).
 pub fn write_line(tag: u32, fields: &[Field<'_>], out: &mut [u8]) -> Option<usize>
     ensures { Wrote (line_fits fields.now) (line_of tag (body_bytes fields.now)) out.old result out.new }
 {

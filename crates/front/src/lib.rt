@@ -42,7 +42,8 @@ fn write_told(told: Told, out: &mut [u8]) -> Option<usize>
 // How many requests are enough for whatever the house is asked.
 pub const MOST: u64 = 1_000;
 
-// A house over whatever keeps a payload: it hears lines of up to `longest` bytes. That `longest` is left as it is each method says, since no type can.
+// A house over whatever keeps a payload: it hears lines of up to `longest` bytes. That `longest` is left as it is
+// each method says: one that borrows the house may change any field, and what is set at run time is no constant.
 #[derive(Drop)]
 pub struct House<L> {
     running: Running<Stack<Clock, L>>,

@@ -18,7 +18,8 @@ pub struct Desk {
     house: House<Recorder>,
     drives: Drives,
     files: DriveFiles,
-    // the house is up: it was opened, and no power failed since; one that is down is kept all the same, and opened again
+    // the house is up: it was opened, and no power failed since. A flag and no Option of the house: each use after it came up would test for a None that
+    // can't be, and a house that is down still has to know what it hears
     up: bool,
 }
 
@@ -122,6 +123,7 @@ impl Desk {
     ) -> Result<(), Trouble> {
         self.come_up(rt)?;
         let mut answer = [0u8; 64];
+        // an answer that there is no room for counts as none
         let n = answer_line(&mut self.house, &mut self.files, line, &mut answer).unwrap_or(0);
         self.stay_up(rt)?;
         write!(out, "out ")?;
@@ -137,6 +139,7 @@ impl Desk {
         ms: u64,
         out: &mut Vec<u8>,
     ) -> Result<(), Trouble> {
+        // room enough for the line
         let mut line = [0u8; 32];
         let n = write_time(0, ms, &mut line).unwrap_or(0);
         self.call(rt, &line[..n], out)

@@ -8,7 +8,7 @@ use labels::{SECTOR_BYTES, read_label};
 use std::fs::{File, OpenOptions};
 use std::io::{Read, Seek, SeekFrom, Write};
 use std::rt::Files;
-use std::{fs, io};
+use std::{array, fs, io};
 
 // The fewest drives that anything is asked of: with fewer, a house that is only unplugged might begin anew.
 pub const FEWEST_DRIVES: usize = 4;
@@ -98,7 +98,7 @@ impl DriveFiles {
         ensures { is_some result.failed ≡ false }
     {
         DriveFiles {
-            at: [None, None, None, None, None, None],
+            at: array::from_fn(|_| None),
             failed: None,
         }
     }

@@ -124,6 +124,7 @@ fn make_room(fields: &[u8]) -> Option<Call<'_>>
 {
     let (name, rest) = name_in(fields)?;
     let (flag, rest) = number_in::<u8>(rest)?;
+    // 0 and 1 are the line's, and this is their only reader
     let keeps = match flag {
         0 => false,
         1 => true,

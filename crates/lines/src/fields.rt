@@ -128,7 +128,7 @@ pub fn ended<T: Drop>(rest: &[u8], value: T) -> Option<T>
 #[derive(Clone, Copy)]
 pub struct Head {
     pub tag: u32,
-    // a byte still: calls have kinds of their own, and answers too
+    // a byte still, and no type parameter: calls and answers have kinds of their own, and each reader turns it into its own in one line
     pub kind: u8,
 }
 

@@ -40,6 +40,7 @@ pub enum Kind {
     Time = 14,
 }
 
+// Like the two of `Refusal` and those of the answers' kinds, since no macro may write an impl here.
 impl TryFrom<u8> for Kind {
     type Error = Unknown;
 

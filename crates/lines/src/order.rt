@@ -126,7 +126,7 @@ fn lacks_call(built: Built, call: Option<Call<'_>>) -> bool
     }
 }
 
-// The tag that the answer bears, whatever the line's length says.
+// The tag that the answer bears, whatever the line's length says; 0 where there is none, as docs/MEANING.md has it.
 pub fn tag_of(line: &[u8]) -> u32
     ensures { result ≡ tag_of line.now }
 {
@@ -160,7 +160,7 @@ fn read_within(longest: usize, line: &[u8]) -> Option<Call<'_>>
     }
 }
 
-// The call on a line, or why it is turned away.
+// The call on a line, or why it is turned away. `time` is 0 while none was told, as in docs/MEANING.md.
 pub fn turned_away(
     line: &[u8],
     built: Built,

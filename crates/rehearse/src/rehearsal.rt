@@ -22,7 +22,7 @@ pub struct Rehearsal {
     pub asked: Option<Counts>,
     house: House<Recorder>,
     longest: usize,
-    // whether the house was opened since the power last failed; one that wasn't is kept all the same
+    // whether the house was opened since the power last failed; a flag and no Option, as each use after it came up would test for a None that can't be
     open: bool,
     chosen: Chosen,
     // room for a line of bytes, one byte more than any that is taken, and for the answer
@@ -61,7 +61,7 @@ impl From<NotGone> for Trouble {
     }
 }
 
-// Each program has troubles of its own: only these two conversions are alike.
+// Each program has troubles of its own: alike are only `Cut`, `Io` and these two conversions.
 impl From<io::Error> for Trouble {
     fn from(error: io::Error) -> Trouble {
         Trouble::Io(error)

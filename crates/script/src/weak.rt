@@ -36,6 +36,7 @@ impl Weak {
         drive < 6 && self.others(drive) < 2
     }
 
+    // By index: of an array written through `get_mut` a proof knows only the length.
     pub fn lost(&mut self, drive: usize)
         ensures { self.new.drives ≡ lost_of drive self.old.drives }
     {

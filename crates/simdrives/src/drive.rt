@@ -107,7 +107,7 @@ fn one_less(counts: &mut BTreeMap<u64, u64>, sector: u64) -> bool {
     }
 }
 
-// Changes nothing where the drive is gone.
+// Changes nothing where the drive is gone. This and the next two each have a clause of their own; in one that takes a closure, its `post` would stand in all.
 #[tactic(auto, unfolding(drives::specs::Drives::written_to))]
 pub fn write(
     slot: &mut Option<Sectors>,

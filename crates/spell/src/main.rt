@@ -27,7 +27,7 @@ impl fmt::Display for Read {
     }
 }
 
-// A line and the buffer that it is written to again go side by side: they are of different loans.
+// A line and the buffer that it is written to again go side by side: a struct of the two would be made and taken apart at once.
 fn compare(line: &[u8], written: Option<usize>, again: &[u8]) -> Read {
     match written {
         Some(n) if again.get(..n) == Some(line) => Read::Same,

@@ -37,7 +37,8 @@ impl Lent {
         b
     }
 
-    // Puts a sector where a request to write means it; what is no sector is left out.
+    // Puts a sector where a request to write means it; what is no sector is left out. It takes any bytes, as `step` hands on what was read: a narrower type
+    // would ask more of who calls.
     pub fn place(&mut self, at: usize, got: &[u8])
         ensures { self.new ≡ placed at got.now self.old }
     {

@@ -44,7 +44,8 @@ pub trait Stepper {
     fn mend(&mut self)
         ensures { view self.new ≡ code.mending (view self.old) };
 
-    // One step of what was begun: `got` is what the last request gave, and nothing at first.
+    // One step of what was begun: `got` is what the last request gave, and nothing at first. Any bytes, since the readable machines speak of it so: a narrower
+    // type would ask more.
     fn step(&mut self, lent: &mut Lent, got: &[u8]) -> Ask
         ensures { record { me = view self.new; lent = lent.new; ask = result } ≡ code.steps (record { me = view self.old; lent = lent.old }) got.now };
 
