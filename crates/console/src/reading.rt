@@ -56,6 +56,13 @@ impl TextLine {
         }
     }
 
+    // What is kept, also where nothing was read yet, or the reader failed.
+    pub fn text(&self) -> &[u8]
+        ensures { result.now ≡ self.now.text.items }
+    {
+        self.text.as_slice()
+    }
+
     // Whether so many bytes more can be kept.
     fn has_room(&self, n: usize) -> bool
         ensures { IsTrue result ↔ (vec_len self.now.text + n ≤ 16777216) }

@@ -33,7 +33,7 @@ module _ {M : Type 0} (f : Held M → List ℕ → Stepped M) (me : M) (lent : L
   spent n a h = ap (λ m. run (from m a) d) h
 
 -- what is only worked out afterwards
-leaves_map : {A B : Type 0} (p : Io A) (f : A → B) (d : Drives) {a : A} {e : Drives} → Leaves p d a e → Leaves (then' p (λ x. answer (f x))) d (f a) e
+pub leaves_map : {A B : Type 0} (p : Io A) (f : A → B) (d : Drives) {a : A} {e : Drives} → Leaves p d a e → Leaves (then' p (λ x. answer (f x))) d (f a) e
 unfolding run
 leaves_map p f d h = run_then p (λ x. answer (f x)) d ∙ ap (λ r. run (answer (f r.value)) r.drives) h
 

@@ -2,7 +2,7 @@
 -- Assumes nothing.
 use Rattle.std.specs.Prelude.{◌≡◌, ℕ, List, []}
 use Rattle.drives.specs.Drives.{Drives, shown, put, written_to, synced_one, Io, run}
-use Rattle.steps.specs.Steps.{Held, sector_at}
+use Rattle.steps.specs.Steps.{Held, Stepped, sector_at}
 use Rattle.steps.specs.declared.Lent.{Lent}
 use Rattle.steps.specs.declared.Ask.{Ask}
 use Rattle.steps.specs.declared.Ask.TheVariants.{Read, Write, Sync, Again, Done}
@@ -23,6 +23,14 @@ performed (Write i s at) lent d = record { got = []; drives = put i (written_to 
 performed (Sync i) lent d = record { got = []; drives = put i (synced_one (d i)) d }
 performed Again lent d = record { got = []; drives = d }
 performed Done lent d = record { got = []; drives = d }
+
+-- what the step f comes to that is taken from h once a request is carried out, and the drives then
+pub record Advanced (M : Type 0) : Type 0 where
+  pub after : Stepped M
+  pub drives : Drives
+
+abbrev pub stepped : {M : Type 0} → (Held M → List ℕ → Stepped M) → Held M → Performed → Advanced M
+stepped f h p = record { after = f h p.got; drives = p.drives }
 
 -- the program p, run on d, answers a and leaves e
 abbrev pub Leaves : {A : Type 0} → Io A → Drives → A → Drives → Type 0

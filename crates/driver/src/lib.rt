@@ -4,9 +4,9 @@
 ghost use Rattle.std.specs.Prelude.{◌≡◌, ℕ, ◌≤◌, [], unwrap_or};
 ghost use Rattle.drives.specs.Drives.{Drives, shown, put, written_to, synced_one, smallest, largest};
 ghost use Rattle.drives.specs.Machines.{Machine};
-ghost use Rattle.steps.specs.Steps.{Stepped, unused, first, runs, machine_of};
+ghost use Rattle.steps.specs.Steps.{Held, Stepped, unused, first, runs, machine_of};
 ghost use Rattle.driver.specs.Known.{WhereKnown};
-ghost use Rattle.driver.specs.Loops.{held_by, Performed, performed, Leaves, Ends};
+ghost use Rattle.driver.specs.Loops.{held_by, Performed, performed, stepped, Leaves, Ends};
 
 use steps::machines::Stepper;
 use steps::{Ask, Lent};
@@ -28,25 +28,81 @@ pub trait Disks {
         ensures { WhereKnown known model self.old self.new (λ d e. e ≡ put drive (synced_one (d drive)) d) };
 }
 
-// Carries out what a step asks for; says what was read.
-fn perform<D: Disks>(ask: Ask, lent: &Lent, disks: &mut D) -> Option<[u8; 512]>
-    ensures { WhereKnown D.Disks.known D.Disks.model disks.old disks.new (λ d e. record { got = unwrap_or result []; drives = e } ≡ performed ask lent.now d) }
+// Carries out what a step asks for, and takes the next step with what was read. What was read is lent to the step where it lies: a sector is not copied on.
+// `Stepper::step` takes any bytes, and none where nothing was read: the readable machines speak of it so, and a narrower type would ask more of its callers.
+fn go_on<M: Stepper, D: Disks>(m: &mut M, lent: &mut Lent, disks: &mut D, ask: Ask) -> Ask
+    ensures { WhereKnown D.Disks.known D.Disks.model disks.old disks.new (λ d e. record { after = record { me = M.Stepper.view m.new; lent = lent.new; ask = result }; drives = e } ≡ stepped M.Stepper.code.steps (record { me = M.Stepper.view m.old; lent = lent.old }) (performed ask lent.old d)) }
 {
     match ask {
-        Ask::Read { drive, sector } => disks.read(drive, sector),
+        Ask::Read { drive, sector } => {
+            let got = disks.read(drive, sector);
+            match &got {
+                Some(bytes) => m.step(lent, bytes),
+                None => m.step(lent, &[]),
+            }
+        }
         Ask::Write { drive, sector, at } => {
             disks.write(drive, sector, &lent.sector(at));
-            None
+            m.step(lent, &[])
         }
         Ask::Sync { drive } => {
             disks.sync(drive);
-            None
+            m.step(lent, &[])
         }
-        Ask::Again | Ask::Done => None,
+        Ask::Again | Ask::Done => m.step(lent, &[]),
     }
 }
 
-// A machine in code, with the memory that is lent to it.
+// Runs the steps of what was begun, with at most `most` requests.
+fn finish<M: Stepper, D: Disks>(m: &mut M, lent: &mut Lent, disks: &mut D, most: u64)
+    ensures { WhereKnown D.Disks.known D.Disks.model disks.old disks.new (λ d e. Leaves (runs M.Stepper.code.steps most (first M.Stepper.code (M.Stepper.view m.old) lent.old)) d (record { me = M.Stepper.view m.new; lent = lent.new }) e) }
+{
+    let mut ask = m.step(lent, &[]);
+    for _ in 0..most {
+        if let Ask::Done = ask {
+            return;
+        }
+        ask = go_on(m, lent, disks, ask);
+    }
+}
+
+// Comes up on drives of a size.
+pub fn open<M: Stepper, D: Disks>(m: &mut M, lent: &mut Lent, disks: &mut D, size: u64, most: u64)
+    ensures code { WhereKnown D.Disks.known D.Disks.model disks.old disks.new (λ d e. Leaves ((machine_of M.Stepper.code most).opens size) d (record { me = M.Stepper.view m.new; lent = lent.new }) e) }
+    ensures read { smallest ≤ size → size ≤ largest → M.Stepper.most ≤ most → WhereKnown D.Disks.known D.Disks.model disks.old disks.new (Ends (M.Stepper.same size (record { me = M.Stepper.view m.new; lent = lent.new })) (M.Stepper.machine.opens size)) }
+{
+    lent.clear();
+    m.open(size);
+    finish(m, lent, disks, most);
+}
+
+// Answers a call.
+pub fn call<M: Stepper, D: Disks>(
+    m: &mut M,
+    lent: &mut Lent,
+    disks: &mut D,
+    c: M::Call,
+    most: u64,
+) -> M::Reply
+    ensures code { WhereKnown D.Disks.known D.Disks.model disks.old disks.new (λ d e. Leaves ((machine_of M.Stepper.code most).does c (record { me = M.Stepper.view m.old; lent = lent.old })) d (record { reply = result; mem = record { me = M.Stepper.view m.new; lent = lent.new } }) e) }
+    ensures read { (size : ℕ) (x : M.Stepper.machine.Mem) → smallest ≤ size → size ≤ largest → M.Stepper.most ≤ most → M.Stepper.same size (record { me = M.Stepper.view m.old; lent = lent.old }) x → WhereKnown D.Disks.known D.Disks.model disks.old disks.new (Ends (λ y. (result ≡ y.reply) × M.Stepper.same size (record { me = M.Stepper.view m.new; lent = lent.new }) y.mem) (M.Stepper.machine.does c x)) }
+{
+    m.begin(c);
+    finish(m, lent, disks, most);
+    m.reply()
+}
+
+// Does one stretch of mending; says whether all is whole.
+pub fn mend<M: Stepper, D: Disks>(m: &mut M, lent: &mut Lent, disks: &mut D, most: u64) -> bool
+    ensures code { WhereKnown D.Disks.known D.Disks.model disks.old disks.new (λ d e. Leaves ((machine_of M.Stepper.code most).mends (record { me = M.Stepper.view m.old; lent = lent.old })) d (record { whole = result; mem = record { me = M.Stepper.view m.new; lent = lent.new } }) e) }
+    ensures read { (size : ℕ) (x : M.Stepper.machine.Mem) → smallest ≤ size → size ≤ largest → M.Stepper.most ≤ most → M.Stepper.same size (record { me = M.Stepper.view m.old; lent = lent.old }) x → WhereKnown D.Disks.known D.Disks.model disks.old disks.new (Ends (λ y. (result ≡ y.whole) × M.Stepper.same size (record { me = M.Stepper.view m.new; lent = lent.new }) y.mem) (M.Stepper.machine.mends x)) }
+{
+    m.mend();
+    finish(m, lent, disks, most);
+    m.is_whole()
+}
+
+// A machine in code, with the memory that is lent to it. Its methods are the functions above, for who holds both.
 #[derive(Drop)]
 pub struct Running<M> {
     pub machine: M,
@@ -63,58 +119,24 @@ impl<M: Stepper> Running<M> {
         }
     }
 
-    // One step, with what the last request gave. `Stepper::step` takes any bytes, and none where nothing was read: the readable machines speak of it so, and a
-    // narrower type would ask more of its callers.
-    fn step(&mut self, got: Option<[u8; 512]>) -> Ask
-        ensures { record { me = M.Stepper.view self.new.machine; lent = self.new.lent; ask = result } ≡ M.Stepper.code.steps (held_by M.Stepper.view self.old) (unwrap_or got []) }
-    {
-        match got {
-            Some(bytes) => self.machine.step(&mut self.lent, &bytes),
-            None => self.machine.step(&mut self.lent, &[]),
-        }
-    }
-
-    // Runs the steps of what was begun, with at most `most` requests.
-    fn finish<D: Disks>(&mut self, disks: &mut D, most: u64)
-        ensures { WhereKnown D.Disks.known D.Disks.model disks.old disks.new (λ d e. Leaves (runs M.Stepper.code.steps most (first M.Stepper.code (M.Stepper.view self.old.machine) self.old.lent)) d (held_by M.Stepper.view self.new) e) }
-    {
-        let mut ask = self.step(None);
-        for _ in 0..most {
-            if let Ask::Done = ask {
-                return;
-            }
-            let got = perform(ask, &self.lent, disks);
-            ask = self.step(got);
-        }
-    }
-
-    // Comes up on drives of a size.
     pub fn open<D: Disks>(&mut self, disks: &mut D, size: u64, most: u64)
         ensures code { WhereKnown D.Disks.known D.Disks.model disks.old disks.new (λ d e. Leaves ((machine_of M.Stepper.code most).opens size) d (held_by M.Stepper.view self.new) e) }
         ensures read { smallest ≤ size → size ≤ largest → M.Stepper.most ≤ most → WhereKnown D.Disks.known D.Disks.model disks.old disks.new (Ends (M.Stepper.same size (held_by M.Stepper.view self.new)) (M.Stepper.machine.opens size)) }
     {
-        self.lent.clear();
-        self.machine.open(size);
-        self.finish(disks, most);
+        open(&mut self.machine, &mut self.lent, disks, size, most);
     }
 
-    // Answers a call.
     pub fn call<D: Disks>(&mut self, disks: &mut D, c: M::Call, most: u64) -> M::Reply
         ensures code { WhereKnown D.Disks.known D.Disks.model disks.old disks.new (λ d e. Leaves ((machine_of M.Stepper.code most).does c (held_by M.Stepper.view self.old)) d (record { reply = result; mem = held_by M.Stepper.view self.new }) e) }
         ensures read { (size : ℕ) (x : M.Stepper.machine.Mem) → smallest ≤ size → size ≤ largest → M.Stepper.most ≤ most → M.Stepper.same size (held_by M.Stepper.view self.old) x → WhereKnown D.Disks.known D.Disks.model disks.old disks.new (Ends (λ y. (result ≡ y.reply) × M.Stepper.same size (held_by M.Stepper.view self.new) y.mem) (M.Stepper.machine.does c x)) }
     {
-        self.machine.begin(c);
-        self.finish(disks, most);
-        self.machine.reply()
+        call(&mut self.machine, &mut self.lent, disks, c, most)
     }
 
-    // Does one stretch of mending; says whether all is whole.
     pub fn mend<D: Disks>(&mut self, disks: &mut D, most: u64) -> bool
         ensures code { WhereKnown D.Disks.known D.Disks.model disks.old disks.new (λ d e. Leaves ((machine_of M.Stepper.code most).mends (held_by M.Stepper.view self.old)) d (record { whole = result; mem = held_by M.Stepper.view self.new }) e) }
         ensures read { (size : ℕ) (x : M.Stepper.machine.Mem) → smallest ≤ size → size ≤ largest → M.Stepper.most ≤ most → M.Stepper.same size (held_by M.Stepper.view self.old) x → WhereKnown D.Disks.known D.Disks.model disks.old disks.new (Ends (λ y. (result ≡ y.whole) × M.Stepper.same size (held_by M.Stepper.view self.new) y.mem) (M.Stepper.machine.mends x)) }
     {
-        self.machine.mend();
-        self.finish(disks, most);
-        self.machine.is_whole()
+        mend(&mut self.machine, &mut self.lent, disks, most)
     }
 }

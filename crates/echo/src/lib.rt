@@ -11,7 +11,7 @@ ghost use Rattle.driver.specs.Known.{WhereKnown};
 ghost use Rattle.driver.specs.Loops.{Ends};
 ghost use Rattle.echo.specs.Tied.{echo_tied, twice_planned};
 
-use driver::{Disks, Running};
+use driver::Disks;
 use steps::layers::Planner;
 use steps::machines::Stepper;
 use steps::{Ask, Lent, Stack};
@@ -166,8 +166,13 @@ impl Planner for Twice {
 }
 
 // The layer over the machine, run on drives.
-pub fn copy_two<D: Disks>(m: &mut Running<Stack<Twice, Echo>>, disks: &mut D, c: u64) -> bool
-    ensures { Ample m.old.lent → WhereKnown D.Disks.known D.Disks.model disks.old disks.new (Ends (λ y. result ≡ y.reply) ((over echoes twices).does c (record { below = tt; above = tt }))) }
+pub fn copy_two<D: Disks>(
+    m: &mut Stack<Twice, Echo>,
+    lent: &mut Lent,
+    disks: &mut D,
+    c: u64,
+) -> bool
+    ensures { Ample lent.old → WhereKnown D.Disks.known D.Disks.model disks.old disks.new (Ends (λ y. result ≡ y.reply) ((over echoes twices).does c (record { below = tt; above = tt }))) }
 {
-    m.call(disks, c, 1000)
+    driver::call(m, lent, disks, c, 1000)
 }

@@ -5,7 +5,7 @@ ghost use Rattle.std.specs.Prelude.{◌≡◌};
 ghost use Rattle.driver.specs.Known.{WhereKnown};
 ghost use Rattle.driver.specs.Loops.{Leaves};
 ghost use Rattle.clock.specs.Spelled.{asked_in, told_bytes};
-ghost use Rattle.front.specs.Fronts.{held_in, house_over, Answered, LineDone};
+ghost use Rattle.front.specs.Fronts.{closed_over, held_in, house_over, Answered, LineDone};
 
 use answers::write_answer;
 use clock::{Asked, Clock, Told};
@@ -50,16 +50,34 @@ pub struct House<L> {
     longest: usize,
 }
 
+// The clock over a machine, as both are before they come up.
+fn closed<L>(lower: L) -> Stack<Clock, L>
+    ensures { result ≡ closed_over lower }
+{
+    Stack {
+        upper: Clock::new(),
+        lower,
+        doing: Doing::Opens,
+    }
+}
+
 impl<L: Stepper<Call = register::Call, Reply = register::Reply>> House<L> {
     pub fn new(lower: L, longest: usize) -> House<L>
         ensures { result.longest ≡ longest }
     {
-        let running = Running::new(Stack {
-            upper: Clock::new(),
-            lower,
-            doing: Doing::Opens,
-        });
+        let running = Running::new(closed(lower));
         House { running, longest }
+    }
+
+    // Forgets all that it knew, as when the power fails, and hears lines of up to `longest` bytes from then on. What is lent to it means nothing between calls: it
+    // is left as it is.
+    pub fn shut(&mut self, lower: L, longest: usize)
+    where
+        L: Drop,
+        ensures { self.new ≡ record { running = record { machine = closed_over lower; lent = self.old.running.lent }; longest = longest } }
+    {
+        self.running.machine = closed(lower);
+        self.longest = longest;
     }
 
     // Comes up on drives of a size.

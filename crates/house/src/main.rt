@@ -12,7 +12,7 @@ use std::io::{BufReader, Write};
 use std::rt::Files;
 use whole::LONGEST;
 
-const HELP: &str = "help: in HEX (a line of bytes) | time MS | mend (one stretch) | status | help";
+const HELP: &str = "help: in HEX (a line of bytes) | time MS | mend (one stretch) | status | help\n";
 
 // Does what one line of text says.
 fn obey(
@@ -28,7 +28,7 @@ fn obey(
         Input::Tells(ms) => desk.tell(rt, ms, out)?,
         Input::Mends => desk.mend(rt, out)?,
         Input::Asks => desk.status(rt, out)?,
-        Input::Helps => writeln!(out, "{HELP}")?,
+        Input::Helps => out.write_all(HELP.as_bytes())?,
     }
     Ok(())
 }
@@ -42,13 +42,13 @@ fn main(rt: HostRuntime) -> io::Result<()> {
     let mut desk = Desk::new(LONGEST);
     for _ in 0..u64::MAX {
         out.clear();
-        let done = match text.read(&mut input)? {
+        let text = match text.read(&mut input)? {
             Text::End => break,
             // as the house answers any text that is no command
-            Text::TooLong(_) => obey(&rt, &mut desk, b"?", &mut line, &mut out),
-            Text::Line(text) => obey(&rt, &mut desk, text, &mut line, &mut out),
+            Text::TooLong(_) => b"?".as_slice(),
+            Text::Line(text) => text,
         };
-        match done {
+        match obey(&rt, &mut desk, text, &mut line, &mut out) {
             Ok(()) => {}
             Err(Trouble::Io(error)) => return Err(error),
             Err(trouble) => writeln!(out, "{trouble}")?,

@@ -18,7 +18,7 @@ good_bytes : (x : List ℕ) → AreBytes x → Good (length x) x
 good_bytes [] f = tt
 good_bytes (b ∷ x) f = (f 0, good_bytes x (λ k. f (suc k)))
 
-good : (n : ℕ) (x : List ℕ) → length x ≡ n → AreBytes x → Good n x
+pub good : (n : ℕ) (x : List ℕ) → length x ≡ n → AreBytes x → Good n x
 good n x e f = subst (λ m. Good m x) e (good_bytes x f)
 
 -- four places that rise, and four pieces of n bytes
@@ -82,6 +82,10 @@ module _ {p q r s n : ℕ} {x y z w : List ℕ} (h : RisingFour p q r s n x y z 
     is_other_lost = other_lost i j hi hj ij n x y z w h.gx h.gy h.gz h.gw ∙ is_one_lost
 
 -- the first four pieces made anew are the data
-pub all_data : (h : Quorum) {a b c d : List ℕ} → let hs = held_by h in a ≡ rebuilt hs 0 → b ≡ rebuilt hs 1 → c ≡ rebuilt hs 2 → d ≡ rebuilt hs 3 → a ∷ b ∷ c ∷ d ∷ [] ≡ decoded hs
+pub all_data : (p q r s : ℕ) (x y z w a b c d : List ℕ) → let hs = four_held p q r s x y z w in a ≡ rebuilt hs 0 → b ≡ rebuilt hs 1 → c ≡ rebuilt hs 2 → d ≡ rebuilt hs 3 → a ∷ b ∷ c ∷ d ∷ [] ≡ decoded hs
 unfolding encoded decoded
-all_data h ea eb ec ed = cc
+all_data p q r s x y z w a b c d ea eb ec ed = cc
+
+-- the same of a quorum
+pub quorum_data : (h : Quorum) {a b c d : List ℕ} → let hs = held_by h in a ≡ rebuilt hs 0 → b ≡ rebuilt hs 1 → c ≡ rebuilt hs 2 → d ≡ rebuilt hs 3 → a ∷ b ∷ c ∷ d ∷ [] ≡ decoded hs
+quorum_data h {a} {b} {c} {d} = all_data h.p h.q h.r h.s h.pieces.w.now h.pieces.x.now h.pieces.y.now h.pieces.z.now a b c d

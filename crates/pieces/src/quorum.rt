@@ -101,7 +101,7 @@ impl<'a> Quorum<'a> {
     }
 
     // The four data pieces.
-    #[tactic(auto, using(crate::proofs::Pieces::all_data))]
+    #[tactic(auto, using(crate::proofs::Pieces::quorum_data))]
     pub(crate) fn write_data(&self, a: &mut [u8], b: &mut [u8], c: &mut [u8], d: &mut [u8])
         requires { (length a.old ≡ length self.now.pieces.w.now) × ((length b.old ≡ length self.now.pieces.w.now) × ((length c.old ≡ length self.now.pieces.w.now) × (length d.old ≡ length self.now.pieces.w.now))) }
         ensures { a.new ∷ b.new ∷ c.new ∷ d.new ∷ [] ≡ decoded (held_by self.now) }
@@ -113,13 +113,15 @@ impl<'a> Quorum<'a> {
             self.piece(3, d);
             return;
         }
-        match (self.p, self.q) {
-            (0, 1) => self.two_lost(a, b, 2, c, 3, d),
-            (0, 2) => self.two_lost(a, c, 1, b, 3, d),
-            (0, 3) => self.two_lost(a, d, 1, b, 2, c),
-            (1, 2) => self.two_lost(b, c, 0, a, 3, d),
-            (1, 3) => self.two_lost(b, d, 0, a, 2, c),
-            _ => self.two_lost(c, d, 0, a, 1, b),
+        // A copy, as above.
+        let held = *self;
+        match (held.p, held.q) {
+            (0, 1) => held.two_lost(a, b, 2, c, 3, d),
+            (0, 2) => held.two_lost(a, c, 1, b, 3, d),
+            (0, 3) => held.two_lost(a, d, 1, b, 2, c),
+            (1, 2) => held.two_lost(b, c, 0, a, 3, d),
+            (1, 3) => held.two_lost(b, d, 0, a, 2, c),
+            _ => held.two_lost(c, d, 0, a, 1, b),
         }
     }
 }

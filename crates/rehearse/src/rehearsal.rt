@@ -150,7 +150,7 @@ impl Rehearsal {
 
     // The house forgets what it had in memory.
     fn shut(&mut self) {
-        self.house = closed_house(self.longest);
+        self.house.shut(Recorder::new(), self.longest);
         self.open = false;
     }
 

@@ -3,11 +3,11 @@ use Rattle.std.proofs.Common.{◌≡◌, ◌-◌}
 use Rattle.drives.specs.Drives.{run}
 use Rattle.steps.specs.Steps.{first, runs}
 use Rattle.driver.specs.Known.{WhereKnown}
-use Rattle.driver.proofs.Running.finish.Given as goal
+use Rattle.driver.proofs.finish.Given as goal
 
 abbrev pub invariant-loop : goal.invariant-loop
 invariant-loop g l =
     let s = g.M.Stepper.code in
     WhereKnown g.D.Disks.known g.D.Disks.model l.fn.disks l.disks (λ d e.
-    run (runs s.steps (l.fn.most - l.counter) (record { me = g.M.Stepper.view l.self.machine; lent = l.self.lent; ask = l.ask })) e ≡
-    run (runs s.steps l.fn.most (first s (g.M.Stepper.view l.fn.self.machine) l.fn.self.lent)) d)
+    run (runs s.steps (l.fn.most - l.counter) (record { me = g.M.Stepper.view l.m; lent = l.lent; ask = l.ask })) e ≡
+    run (runs s.steps l.fn.most (first s (g.M.Stepper.view l.fn.m) l.fn.lent)) d)
