@@ -28,7 +28,8 @@ pub trait Disks {
         ensures { WhereKnown known model self.old self.new (λ d e. e ≡ put drive (synced_one (d drive)) d) };
 }
 
-// Carries out what a step asks for, and takes the next step with what was read. What was read is lent to the step where it lies: a sector is not copied on.
+// Carries out what a step asks for, and takes the next step with what was read. What was read is lent to the step where it lies, and each request has a step of
+// its own, so that nothing stands in for a sector where none was read: it is not copied on, nor are 512 zeros made.
 // `Stepper::step` takes any bytes, and none where nothing was read: the readable machines speak of it so, and a narrower type would ask more of its callers.
 fn go_on<M: Stepper, D: Disks>(m: &mut M, lent: &mut Lent, disks: &mut D, ask: Ask) -> Ask
     ensures { WhereKnown D.Disks.known D.Disks.model disks.old disks.new (λ d e. record { after = record { me = M.Stepper.view m.new; lent = lent.new; ask = result }; drives = e } ≡ stepped M.Stepper.code.steps (record { me = M.Stepper.view m.old; lent = lent.old }) (performed ask lent.old d)) }
@@ -66,7 +67,7 @@ fn finish<M: Stepper, D: Disks>(m: &mut M, lent: &mut Lent, disks: &mut D, most:
     }
 }
 
-// Comes up on drives of a size.
+// Comes up on drives of a size. Here and below a machine and the memory lent to it are two parameters: who only borrows both can call these.
 pub fn open<M: Stepper, D: Disks>(m: &mut M, lent: &mut Lent, disks: &mut D, size: u64, most: u64)
     ensures code { WhereKnown D.Disks.known D.Disks.model disks.old disks.new (λ d e. Leaves ((machine_of M.Stepper.code most).opens size) d (record { me = M.Stepper.view m.new; lent = lent.new }) e) }
     ensures read { smallest ≤ size → size ≤ largest → M.Stepper.most ≤ most → WhereKnown D.Disks.known D.Disks.model disks.old disks.new (Ends (M.Stepper.same size (record { me = M.Stepper.view m.new; lent = lent.new })) (M.Stepper.machine.opens size)) }

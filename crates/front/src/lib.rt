@@ -43,7 +43,7 @@ fn write_told(told: Told, out: &mut [u8]) -> Option<usize>
 pub const MOST: u64 = 1_000;
 
 // A house over whatever keeps a payload: it hears lines of up to `longest` bytes. That `longest` is left as it is
-// each method says: one that borrows the house may change any field, and what is set at run time is no constant.
+// each method but `shut` says: one that borrows the house may change any field, and what is set at run time is no constant.
 #[derive(Drop)]
 pub struct House<L> {
     running: Running<Stack<Clock, L>>,

@@ -113,7 +113,7 @@ impl<'a> Quorum<'a> {
             self.piece(3, d);
             return;
         }
-        // A copy, as above.
+        // A copy, as in `piece`.
         let held = *self;
         match (held.p, held.q) {
             (0, 1) => held.two_lost(a, b, 2, c, 3, d),

@@ -7,7 +7,7 @@ use std::io::Write;
 use std::{fmt, io};
 
 const HELP: &str =
-    "help: drives N, longest N, in HEX, time T, mend, mend whole, status, lose I, replace I, asked, cut N SEED, cut N bits B";
+    "help: drives N, longest N, in HEX, time T, mend, mend whole, status, lose I, replace I, asked, cut N SEED, cut N bits B\n";
 
 // The numbers of the drives that a test holds of.
 #[derive(Clone, Copy)]
@@ -83,7 +83,7 @@ impl Rehearsal {
             Input::Tells(ms) => self.say_time(ms, out)?,
             Input::Mends => self.say_mend(out)?,
             Input::Asks => self.say_status(out)?,
-            Input::Helps => writeln!(out, "{HELP}")?,
+            Input::Helps => out.write_all(HELP.as_bytes())?,
         }
         Ok(())
     }
