@@ -12,7 +12,8 @@ use std::io::{BufReader, Write};
 use std::rt::Files;
 use whole::LONGEST;
 
-const HELP: &str = "help: in HEX (a line of bytes) | time MS | mend (one stretch) | status | help\n";
+const HELP: &str =
+    "help: in HEX (a line of bytes) | time MS | mend (one stretch) | status | help\n";
 
 // Does what one line of text says.
 fn obey(
