@@ -6,12 +6,18 @@ ghost use Rattle.console.specs.Hex.{digit_value, unhexed, line_of, Lays, digit, 
 
 use std::alloc::AllocError;
 
-// What is no digit counts as 0: `unhex` has seen that there is none.
+// What is no digit counts as 0: `unhex` has seen that there is none. By ranges, for speed: with the library's `to_digit` a long line of mixed digits takes half as
+// much time again.
 fn digit_value(d: u8) -> u8
     ensures value { result ≡ digit_value d }
     ensures bound { result < 16 }
 {
-    char::from(d).to_digit(16).unwrap_or(0) as u8
+    match d {
+        b'0'..=b'9' => d - b'0',
+        b'a'..=b'f' => d - b'a' + 10,
+        b'A'..=b'F' => d - b'A' + 10,
+        _ => 0,
+    }
 }
 
 fn are_digits(digits: &[u8]) -> bool
